@@ -1,0 +1,53 @@
+-- `areas::fill_u16` writes v over the first k places: the loop keeps `Filled`, the law for every width. Assumes nothing.
+use Prim.Native.Nat.{_-_, _≤_}
+use native.Mathlib.Omega.{arith}
+use mathlib.Core.Path.{_≡_}
+use borrow.Author.Needs.{needs}
+use Rattle.areas.proofs.Filled.{Filled, filled-none, filled-more}
+use Rattle.areas.proofs.fill_u16.Statement.{statement}
+use Rattle.areas.proofs.fill_u16.Tie as tie
+
+abbrev Inv-loop : tie.InvT-loop
+Inv-loop a₀ k v i₀ a i = (i ≤ k) × Filled a₀ v i a
+
+abbrev μ-loop : tie.MeasureT-loop
+μ-loop a₀ k v i₀ a i = k - i
+
+loop-holds : tie.Need-loop-holds Inv-loop μ-loop
+loop-holds c = (search needs, filled-none _ _)
+
+mul-a : tie.Need-mul-a Inv-loop μ-loop
+mul-a c = search needs
+
+slice-write-a : tie.Need-slice-write-a Inv-loop μ-loop
+slice-write-a c = search needs
+
+add-i : tie.Need-add-i Inv-loop μ-loop
+add-i c = omega arith
+
+loop-less : tie.Need-loop-less Inv-loop μ-loop
+loop-less c = omega arith
+
+loop-again : tie.Need-loop-again Inv-loop μ-loop
+loop-again c = (search needs, filled-more _ _ _ _ (search needs) (c .before .loop .inv .1))
+
+same-length : tie.Need-same-length Inv-loop μ-loop
+same-length c = search needs
+
+returns : tie.Need-returns Inv-loop μ-loop
+returns c = let e : c .before .loop .i ≡ c .before .before .args .k = omega arith in rw (← e) (c .before .loop .inv .1 .is)
+
+pub fill-u16-spec : {M : Type 1} → statement M
+fill-u16-spec =
+    tie.close
+    (tie.spec
+    Inv-loop
+    μ-loop
+    loop-holds
+    mul-a
+    slice-write-a
+    add-i
+    loop-less
+    loop-again
+    same-length
+    returns)

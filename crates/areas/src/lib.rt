@@ -1,0 +1,87 @@
+// Leaves over the areas: filling, sizes, the lowest free number.
+ghost use mathlib.Core.Path.{_≡_};
+ghost use mathlib.Core.List.{_++_};
+ghost use Prim.Native.Nat.{ℕ, _≤_, _<_};
+ghost use lib.ListN.{length, getD, drop, replicate};
+ghost use Rattle.rules.specs.Calls.{storeOf, isSized};
+ghost use Rattle.areas.specs.Lowest.{NoneFree, LowestFree};
+use rules::Store;
+
+// Sets the first k entries to v.
+pub fn fill_u8(a: &mut [u8], k: usize, v: u8)
+    requires { ⌜ k ≤ length (now a) ⌝ }
+    ensures { λ _. ⌜ now (a .exit) ≡ replicate k v ++ drop k (now (a .entry)) ⌝ }
+{
+    let mut i = 0;
+    while i < k {
+        a[i] = v;
+        i += 1;
+    }
+}
+
+// Sets the first k entries to v.
+pub fn fill_u16(a: &mut [u16], k: usize, v: u16)
+    requires { ⌜ k ≤ length (now a) ⌝ }
+    ensures { λ _. ⌜ now (a .exit) ≡ replicate k v ++ drop k (now (a .entry)) ⌝ }
+{
+    let mut i = 0;
+    while i < k {
+        a[i] = v;
+        i += 1;
+    }
+}
+
+// Sets the first k entries to v.
+pub fn fill_u32(a: &mut [u32], k: usize, v: u32)
+    requires { ⌜ k ≤ length (now a) ⌝ }
+    ensures { λ _. ⌜ now (a .exit) ≡ replicate k v ++ drop k (now (a .entry)) ⌝ }
+{
+    let mut i = 0;
+    while i < k {
+        a[i] = v;
+        i += 1;
+    }
+}
+
+// Whether n is a capacity and each area of the store has exactly its length.
+pub fn sized(n: usize, states: &[u8], links: &[u16], leaders: &[u16], holds: &[u16], counts: &[u32]) -> bool
+    ensures { λ r. ⌜ r ≡ isSized (storeOf n (now (states .entry)) (now (links .entry)) (now (leaders .entry)) (now (holds .entry)) (now (counts .entry))) ⌝ }
+{
+    if n < 1 {
+        return false;
+    }
+    if Store::MOST < n {
+        return false;
+    }
+    if states.len() != n {
+        return false;
+    }
+    if links.len() != 4 * n {
+        return false;
+    }
+    if leaders.len() != n {
+        return false;
+    }
+    if holds.len() != n {
+        return false;
+    }
+    if counts.len() != n {
+        return false;
+    }
+    true
+}
+
+// The lowest free number, or n, where no number below from is free.
+pub fn lowest_free(n: usize, states: &[u8], from: usize) -> usize
+    requires { ⌜ (length (now states) ≡ n) × (from ≤ n) × NoneFree (now states) from ⌝ }
+    ensures { λ r. ⌜ LowestFree n (now (states .entry)) r ⌝ }
+{
+    let mut p = from;
+    while p < n {
+        if states[p] == 0 {
+            return p;
+        }
+        p += 1;
+    }
+    p
+}

@@ -1,0 +1,64 @@
+-- `groups::merge` meets its contract: the blocks from `left` on start above the position, and the first does not. Assumes nothing.
+use native.Mathlib.Omega.{arith}
+use Prim.Native.Nat.{ℕ, _≤_, _<_, _*_, _+_, _-_, pred}
+use Rattle.paths.specs.Ground.{_!_}
+use Rattle.groups.specs.Layout.{part, part-get}
+use Rattle.groups.specs.Loops.{CutLoop, cut-more, cut-done}
+use mathlib.Core.Path.{subst}
+use Rattle.groups.proofs.merge.Statement.{statement}
+use Rattle.groups.proofs.merge.Tie as tie
+
+abbrev Inv-loop : tie.InvT-loop
+Inv-loop n work blocks position left₀ left = CutLoop n work blocks position left
+
+abbrev μ-loop : tie.MeasureT-loop
+μ-loop n work blocks position left₀ left = left
+
+loop-holds : tie.Need-loop-holds Inv-loop μ-loop
+loop-holds c = (omega arith, omega arith, λ i a b. absurd (omega arith))
+
+mul-get : tie.Need-mul-get Inv-loop μ-loop
+mul-get c = omega arith
+
+sub-get : tie.Need-sub-get Inv-loop μ-loop
+sub-get c = omega arith
+
+add-get : tie.Need-add-get Inv-loop μ-loop
+add-get c = omega arith
+
+get-requires : tie.Need-get-requires Inv-loop μ-loop
+get-requires c κs = omega arith
+
+sub-left : tie.Need-sub-left Inv-loop μ-loop
+sub-left c = omega arith
+
+loop-less : tie.Need-loop-less Inv-loop μ-loop
+loop-less c = omega arith
+
+loop-again : tie.Need-loop-again Inv-loop μ-loop
+loop-again c =
+    let s = c .before .before .before .before in
+    let l = c .before .before .loop in
+    cut-more (s .args .n) (s .args .work .now) (s .args .blocks) (s .args .position) (l .left) (omega arith) (omega arith) (l .inv) (omega (arith, c .before .get .ensures, c .if1 .taken))
+
+returns : tie.Need-returns Inv-loop μ-loop
+returns c =
+    let s = c .before .before .before .before in
+    let l = c .before .before .loop in
+    cut-done (s .args .n) (s .args .work .now) (s .args .blocks) (s .args .position) (l .left) (omega arith) (l .inv) (omega (arith, c .before .get .ensures, c .if1 .left))
+
+pub merge-spec : {M : Type 1} → statement M
+merge-spec =
+    tie.close
+    (tie.spec
+    Inv-loop
+    μ-loop
+    loop-holds
+    mul-get
+    sub-get
+    add-get
+    get-requires
+    sub-left
+    loop-less
+    loop-again
+    returns)

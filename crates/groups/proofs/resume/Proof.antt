@@ -1,0 +1,37 @@
+-- `groups::resume` meets its contract: the piece and its place are as read. Assumes nothing.
+use mathlib.Core.Path.{_≡_, refl, sym, _∙_, ap, subst}
+use native.Mathlib.Omega.{arith}
+use Prim.Native.Nat.{ℕ, _+_, _-_, _*_, _≤_, _<_}
+use Rattle.paths.specs.Ground.{_!_}
+use borrow.Author.Needs.{needs}
+use Rattle.groups.proofs.resume.Statement.{statement}
+use Rattle.groups.proofs.resume.Tie as tie
+
+mul-get : tie.Need-mul-get
+mul-get c = search needs
+
+add-get : tie.Need-add-get
+add-get c = search needs
+
+get-requires : tie.Need-get-requires
+get-requires c κs = search needs
+
+add-get-2 : tie.Need-add-get-2
+add-get-2 c = search needs
+
+get-requires-2 : tie.Need-get-requires-2
+get-requires-2 c κs = search needs
+
+returns : tie.Need-returns
+returns c =
+    let e = c .before .get .ensures in
+    record {
+      size-is = refl;
+      blocks-is = refl;
+      stand-is = refl;
+      piece-is = e;
+      place-is = c .get2 .ensures ∙ ap (λ (x : ℕ). c .before .before .before .args .work .now ! (c .before .before .before .args .n + x)) e;
+    }
+
+pub resume-spec : {M : Type 1} → statement M
+resume-spec = tie.close (tie.spec mul-get add-get get-requires add-get-2 get-requires-2 returns)

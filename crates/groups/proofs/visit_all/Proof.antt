@@ -1,0 +1,59 @@
+-- `groups::visit_all` meets its contract: every piece of the class below `next` is finished. Assumes nothing.
+use Prim.Native.Nat.{_-_}
+use native.Mathlib.Omega.{arith}
+use Rattle.groups.specs.Roots.{Trying, trying-none, trying-start, trying-more, trying-pass, trying-all}
+use Rattle.groups.proofs.visit_all.Statement.{statement}
+use Rattle.groups.proofs.visit_all.Tie as tie
+
+abbrev Inv-loop : tie.InvT-loop
+Inv-loop n states links class work₀ next₀ work next = Trying n states links class work₀ work next
+
+abbrev μ-loop : tie.MeasureT-loop
+μ-loop n states links class work₀ next₀ work next = n - next
+
+loop-holds : tie.Need-loop-holds Inv-loop μ-loop
+loop-holds c = trying-none (c .before .before .before .pre)
+
+add-next : tie.Need-add-next Inv-loop μ-loop
+add-next c = omega (arith, c .before .before .before .before .before .pre .lent .most)
+
+shared-slice-read-if1 : tie.Need-shared-slice-read-if1 Inv-loop μ-loop
+shared-slice-read-if1 c = omega (arith, c .before .loop-test .taken, c .before .before .before .before .before .before .pre .lent .states-n)
+
+search-requires : tie.Need-search-requires Inv-loop μ-loop
+search-requires c κs = trying-start (c .before .before .before .before .loop .inv) (c .before .before .before .loop-test .taken) (c .before .if1 .taken)
+
+loop-less : tie.Need-loop-less Inv-loop μ-loop
+loop-less c = omega (arith, c .before .before .before .before .before .before .loop-test .taken)
+
+loop-again : tie.Need-loop-again Inv-loop μ-loop
+loop-again c = trying-more (c .before .before .before .before .before .before .before .loop .inv) (c .before .before .before .before .before .before .loop-test .taken) (c .before .before .before .before .if1 .taken) (c .before .before .search .kept .1 .1 .1 .1 .0) (c .before .before .search .ensures)
+
+loop-less-2 : tie.Need-loop-less-2 Inv-loop μ-loop
+loop-less-2 c = omega (arith, c .before .before .loop-test .taken)
+
+loop-again-2 : tie.Need-loop-again-2 Inv-loop μ-loop
+loop-again-2 c = trying-pass (c .before .before .before .loop .inv) (c .before .before .loop-test .taken) (c .if1 .left)
+
+same-length : tie.Need-same-length Inv-loop μ-loop
+same-length c = c .before .loop .inv .len
+
+returns : tie.Need-returns Inv-loop μ-loop
+returns c = trying-all (c .before .loop .inv) (c .loop-test .left)
+
+pub visit-all-spec : {M : Type 1} → statement M
+visit-all-spec =
+    tie.close
+    (tie.spec
+    Inv-loop
+    μ-loop
+    loop-holds
+    add-next
+    shared-slice-read-if1
+    search-requires
+    loop-less
+    loop-again
+    loop-less-2
+    loop-again-2
+    same-length
+    returns)

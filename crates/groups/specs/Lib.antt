@@ -1,0 +1,9 @@
+pub mod Layout
+pub mod Steps
+pub mod Loops
+pub mod Stores
+pub mod Explore
+pub mod Finish
+pub mod Whole
+pub mod Marked
+pub mod Roots

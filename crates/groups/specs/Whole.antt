@@ -1,0 +1,114 @@
+-- The whole search from one root: how it begins, what its loop keeps, and how it ends.
+use mathlib.Core.Path.{_≡_, refl, sym, _∙_, ap, subst}
+use mathlib.Core.List.{List}
+use mathlib.Core.Logic.{_⊎_, inl, inr, ⊎-elim}
+use Prim.Native.Nat.{ℕ, zero, suc, pred, _+_, _-_, _*_, _≤_, _<_}
+use native.Mathlib.Omega.{arith}
+use lib.ListN.{length, set, length-set}
+use Rattle.rules.specs.Reach.{Reach, here}
+use Rattle.paths.specs.Ground.{Ground, ground, Closed, _!_}
+use Rattle.paths.specs.Search.{finished, Regions, Invariant, Visited}
+use Rattle.paths.specs.Tools.{lt-or, set-other}
+use Rattle.paths.specs.Stays.{kept-in}
+use Rattle.paths.specs.Moves.Push as move
+use Rattle.paths.specs.Moves.Whole.{begins, finishes}
+use Rattle.groups.specs.Layout.{part, tail, regions, moved, part-get, part-length, sizes}
+use Rattle.groups.specs.Stores.{moved-same, push-view, push-tail}
+use Rattle.groups.specs.Steps.{Lent, view, Stands, Going, Stepped, pushed, Started, Searched}
+use Rattle.groups.specs.declared.At.{At}
+
+-- the search at its root
+abbrev pub first : ℕ → At
+first root = record { size = 1; blocks = 1; stand = 0; piece = root; place = 0 }
+
+-- what the loop of a search keeps, from the work w₀ on which it began
+pub record Searching (n : ℕ) (ss ls : List ℕ) (k : ℕ) (w₀ : List ℕ) (root : ℕ) (w : List ℕ) (a : At) : Type 0 where
+  pub lent : Lent n ss ls w
+  pub len : length w ≡ length w₀
+  pub old : List ℕ
+  pub began : Stands n ss ls k old root w₀ (first root)
+  pub stands : (old : List ℕ) → Stands n ss ls k old root w₀ (first root) → Stands n ss ls k old root w a
+  pub tail-same : tail n w ≡ tail n w₀
+
+pub going : {n : ℕ} {ss ls : List ℕ} {k : ℕ} {w₀ : List ℕ} {root : ℕ} {w : List ℕ} {a : At} → Searching n ss ls k w₀ root w a → 0 < a .size → Going n ss ls k w a
+going {root = root} Q pos = record { lent = Q .lent; live = pos; old = Q .old; root = root; stands = Q .stands (Q .old) (Q .began) }
+
+pub searching-step : {n : ℕ} {ss ls : List ℕ} {k : ℕ} {w₀ : List ℕ} {root : ℕ} {w : List ℕ} {a : At} {w′ : List ℕ} {a′ : At} → Searching n ss ls k w₀ root w a
+    → length w′ ≡ length w → Stepped n ss ls k w a w′ a′ → Searching n ss ls k w₀ root w′ a′
+searching-step {root = root} Q len T = record {
+  lent = record { most = Q .lent .most; states-n = Q .lent .states-n; links-n = Q .lent .links-n; work-n = omega (arith, len, Q .lent .work-n) };
+  len = len ∙ Q .len;
+  old = Q .old;
+  began = Q .began;
+  stands = λ old S. T .stands old root (Q .stands old S);
+  tail-same = T .tail-same ∙ Q .tail-same;
+}
+
+module _ {n : ℕ} {ss ls : List ℕ} {k : ℕ} {w : List ℕ} {root : ℕ} (S : Started n ss ls k w root) where
+  abbrev g : Ground
+  g = ground n ss ls k
+
+  root-get : part n 0 w ! root ≡ w ! root
+  root-get = part-get n 0 w root (S .root-lt) ∙ ap (λ (i : ℕ). w ! i) (omega arith)
+
+  pub room : (n ≤ 1024) × (6 * n ≤ length w) × (0 < n) × (0 < n) × (0 < n) × (root < n)
+  room = (S .lent .most, S .lent .work-n, omega (arith, S .root-lt), omega (arith, S .root-lt), omega (arith, S .root-lt), S .root-lt)
+
+  module _ (unseen : w ! root ≡ 0) {w₀ : List ℕ} (w₀-is : w₀ ≡ pushed n w 0 0 0 root) where
+    R : regions n w₀ ≡ move.pushed (regions n w) 0 0 0 root
+    R = ap (regions n) w₀-is ∙ push-view n w 0 0 0 root (omega (arith, S .root-lt)) (omega (arith, S .root-lt)) (S .root-lt)
+
+    next-zero : 0 ≡ part n n w₀ ! root
+    next-zero = sym (ap (λ (s : Regions). s .next ! root) R ∙ S .calm .fresh root (S .root-lt) (root-get ∙ unseen))
+
+    begun : Invariant g (part n 0 w) root (regions n w₀) 1 1 0
+    begun =
+        subst (λ (s : Regions). Invariant g (part n 0 w) root s 1 1 0) (sym R)
+        (move.push g (part n 0 w) root (regions n w) 0 0 0 (begins g (regions n w) root (sizes n w (S .lent .work-n)) (S .calm)) (λ h. absurd (omega arith)) (λ h. absurd (omega arith)) (λ e. refl)
+        root (S .root-lt) (S .root-in) (root-get ∙ unseen) (λ h. absurd (omega arith)) (λ e. refl) (omega arith))
+
+    begin : Stands n ss ls k (part n 0 w) root w₀ (first root)
+    begin = record {
+      inv = subst (λ (s : Regions). Invariant g (part n 0 w) root s 1 1 0) (sym (moved-same (regions n w₀) root 0 next-zero)) begun;
+      piece-lt = S .root-lt;
+      piece-is = λ _. begun .live (omega arith) .first;
+      stored = λ e. absurd (omega arith);
+    }
+
+    len₀ : length w₀ ≡ length w
+    len₀ = ap length w₀-is ∙ simp length-set refl
+
+    pub searching : Searching n ss ls k w₀ root w₀ (first root)
+    searching = record {
+      lent = record { most = S .lent .most; states-n = S .lent .states-n; links-n = S .lent .links-n; work-n = omega (arith, len₀, S .lent .work-n) };
+      len = refl;
+      old = part n 0 w;
+      began = begin;
+      stands = λ old S. S;
+      tail-same = refl;
+    }
+
+    pub searched : {w′ : List ℕ} {a : At} → Searching n ss ls k w₀ root w′ a → a .size ≡ 0 → Searched n ss ls k w root w′
+    searched {w′} {a} Q end =
+        let T = Q .stands (part n 0 w) begin in
+        let I : Invariant g (part n 0 w) root (regions n w′) 0 (a .blocks) (a .stand) =
+        subst (λ (m : ℕ). Invariant g (part n 0 w) root (regions n w′) m (a .blocks) (a .stand)) end
+        (subst (λ (s : Regions). Invariant g (part n 0 w) root s (a .size) (a .blocks) (a .stand)) (moved-same (regions n w′) (a .piece) (a .place) (sym (T .stored end))) (T .inv)) in
+        record {
+          visited = finishes g (S .closed) (part n 0 w) (regions n w′) root (a .blocks) (a .stand) (S .root-lt) I;
+          tail-same = Q .tail-same ∙ ap (tail n) w₀-is ∙ push-tail n w 0 0 0 root (omega (arith, S .root-lt)) (omega (arith, S .root-lt)) (S .root-lt);
+        }
+
+  -- a root that is finished already
+  pub already : (w ! root ≡ 0 → ⊥) → Searched n ss ls k w root w
+  already nz =
+      let e : part n 0 w ! root ≡ finished = ⊎-elim (λ z. absurd (nz (sym root-get ∙ z))) (λ e. e) (S .calm .either root (S .root-lt)) in
+      record {
+        visited = record {
+          calm = S .calm;
+          kept = λ x lt h. h;
+          reached = λ x lt cx r. kept-in g (part n 0 w) (S .closed) (S .calm .closed) x cx r here (S .root-lt) (S .root-in) e .1;
+          «only» = λ x lt h. inl h;
+        };
+        tail-same = refl;
+      }

@@ -1,0 +1,262 @@
+// The search for groups over lent tables, in one work slice of six regions of n entries.
+// By piece: marks (0 unseen, q + 1 on the stack at position q, 65535 finished), next places, leaders.
+// By position: the stack, the starts of its blocks, the parent's position.
+ghost use mathlib.Core.Path.{_≡_};
+ghost use Prim.Native.Nat.{ℕ, _+_, _-_, _*_, _≤_, _<_};
+ghost use lib.ListN.{length, set};
+ghost use Rattle.paths.specs.Ground.{_!_, Closed, ground};
+ghost use Rattle.paths.specs.Search.{Visited};
+ghost use Rattle.paths.specs.Moves.Pop.{Lowest};
+ghost use Rattle.groups.specs.Layout.{part};
+ghost use Rattle.groups.specs.Steps.{pushed, Going, Stepped, Cut, Blocks, ClosedOff, Pieces, Resumed, Started, Searched};
+ghost use Rattle.groups.specs.Marked.{Ready, Marked, Reached, Of};
+
+// Where the search stands.
+pub struct At {
+    // The pieces on the stack, and their blocks.
+    pub size: usize,
+    pub blocks: usize,
+    // The position on the stack, the piece there, and its next place.
+    pub stand: usize,
+    pub piece: usize,
+    pub place: usize,
+}
+
+fn get(work: &[u32], i: usize) -> usize
+    requires { ⌜ i < length (now work) ⌝ }
+    ensures { λ r. ⌜ r ≡ now (work .entry) ! i ⌝ }
+{
+    work[i] as usize
+}
+
+fn put(work: &mut [u32], i: usize, x: usize)
+    requires { ⌜ (i < length (now work)) × (x ≤ 65535) ⌝ }
+    ensures { λ _. ⌜ now (work .exit) ≡ set (now (work .entry)) i x ⌝ }
+{
+    work[i] = x as u32;
+}
+
+// Puts a piece on the stack, as a block of its own, with its parent at position `stand`.
+fn push(n: usize, work: &mut [u32], size: usize, blocks: usize, stand: usize, piece: usize)
+    requires { ⌜ (n ≤ 1024) × (6 * n ≤ length (now work)) × (size < n) × (blocks < n) × (stand < n) × (piece < n) ⌝ }
+    ensures { λ _. ⌜ now (work .exit) ≡ pushed n (now (work .entry)) size blocks stand piece ⌝ }
+{
+    put(work, piece, size + 1);
+    put(work, 3 * n + size, piece);
+    put(work, 4 * n + blocks, size);
+    put(work, 5 * n + size, stand);
+}
+
+// How many blocks are left when those that start above a position are merged into the one below.
+fn merge(n: usize, work: &[u32], blocks: usize, position: usize) -> usize
+    requires { ⌜ Blocks n (now work) blocks position ⌝ }
+    ensures { λ r. ⌜ Cut n (now (work .entry)) blocks position r ⌝ }
+{
+    let mut left = blocks;
+    while position < get(work, 4 * n + (left - 1)) {
+        left -= 1;
+    }
+    left
+}
+
+// Explores the next place of the piece at which the search stands.
+fn explore(
+    n: usize,
+    states: &[u8],
+    links: &[u16],
+    class: u8,
+    work: &mut [u32],
+    a: At,
+) -> At
+    requires { ⌜ Going n (now states) (now links) class (now work) a × (a .place < 4) ⌝ }
+    ensures { λ r. ⌜ Stepped n (now (states .entry)) (now (links .entry)) class (now (work .entry)) a (now (work .exit)) r ⌝ }
+{
+    let size = a.size;
+    let blocks = a.blocks;
+    let stand = a.stand;
+    let piece = a.piece;
+    let place = a.place;
+    let target = links[4 * piece + place] as usize;
+    if n <= target {
+        return At {
+            size: size,
+            blocks: blocks,
+            stand: stand,
+            piece: piece,
+            place: place + 1,
+        };
+    }
+    if states[target] != class {
+        return At {
+            size: size,
+            blocks: blocks,
+            stand: stand,
+            piece: piece,
+            place: place + 1,
+        };
+    }
+    let mark = get(work, target);
+    if mark == 0 {
+        put(work, n + piece, place + 1);
+        push(n, work, size, blocks, stand, target);
+        return At {
+            size: size + 1,
+            blocks: blocks + 1,
+            stand: size,
+            piece: target,
+            place: 0,
+        };
+    }
+    if mark == 65535 {
+        return At {
+            size: size,
+            blocks: blocks,
+            stand: stand,
+            piece: piece,
+            place: place + 1,
+        };
+    }
+    let left = merge(n, work, blocks, mark - 1);
+    At {
+        size: size,
+        blocks: left,
+        stand: stand,
+        piece: piece,
+        place: place + 1,
+    }
+}
+
+// The lowest piece on the stack from position `stand` up.
+fn lowest(n: usize, work: &[u32], stand: usize, size: usize) -> usize
+    requires { ⌜ Pieces n (now work) stand size ⌝ }
+    ensures { λ r. ⌜ Lowest (part n (3 * n) (now (work .entry))) stand size r ⌝ }
+{
+    let mut low = get(work, 3 * n + stand);
+    let mut q = stand + 1;
+    while q < size {
+        let piece = get(work, 3 * n + q);
+        if piece < low {
+            low = piece;
+        }
+        q += 1;
+    }
+    low
+}
+
+// Finishes the pieces on the stack from position `stand` up, with leader `low`.
+fn close(n: usize, work: &mut [u32], stand: usize, size: usize, low: usize)
+    requires { ⌜ Pieces n (now work) stand size × (low < n) ⌝ }
+    ensures { λ _. ⌜ ClosedOff n (now (work .entry)) stand size low (now (work .exit)) ⌝ }
+{
+    let mut q = stand;
+    while q < size {
+        let piece = get(work, 3 * n + q);
+        put(work, piece, 65535);
+        put(work, 2 * n + piece, low);
+        q += 1;
+    }
+}
+
+// Goes on at a position of the stack, with the piece there and its next place.
+fn resume(n: usize, work: &[u32], size: usize, blocks: usize, stand: usize) -> At
+    requires { ⌜ (n ≤ 1024) × (6 * n ≤ length (now work)) × (stand < n) × (now work ! (3 * n + stand) < n) ⌝ }
+    ensures { λ r. ⌜ Resumed n (now (work .entry)) size blocks stand r ⌝ }
+{
+    let piece = get(work, 3 * n + stand);
+    let place = get(work, n + piece);
+    At {
+        size: size,
+        blocks: blocks,
+        stand: stand,
+        piece: piece,
+        place: place,
+    }
+}
+
+// The piece at which the search stands is explored: its block is finished if it starts there, and the search goes back to its parent.
+fn finish(
+    n: usize,
+    states: &[u8],
+    links: &[u16],
+    class: u8,
+    work: &mut [u32],
+    a: At,
+) -> At
+    requires { ⌜ Going n (now states) (now links) class (now work) a × Closed (ground n (now states) (now links) class) × (a .place ≡ 4) ⌝ }
+    ensures { λ r. ⌜ Stepped n (now (states .entry)) (now (links .entry)) class (now (work .entry)) a (now (work .exit)) r ⌝ }
+{
+    let size = a.size;
+    let blocks = a.blocks;
+    let stand = a.stand;
+    let piece = a.piece;
+    put(work, n + piece, 4);
+    let start = get(work, 4 * n + (blocks - 1));
+    let parent = get(work, 5 * n + stand);
+    if start == stand {
+        let low = lowest(n, work, stand, size);
+        close(n, work, stand, size, low);
+        return resume(n, work, stand, blocks - 1, parent);
+    }
+    resume(n, work, size, blocks, parent)
+}
+
+fn step(
+    n: usize,
+    states: &[u8],
+    links: &[u16],
+    class: u8,
+    work: &mut [u32],
+    a: At,
+) -> At
+    requires { ⌜ Going n (now states) (now links) class (now work) a × Closed (ground n (now states) (now links) class) ⌝ }
+    ensures { λ r. ⌜ Stepped n (now (states .entry)) (now (links .entry)) class (now (work .entry)) a (now (work .exit)) r ⌝ }
+{
+    let place = a.place;
+    if place < 4 {
+        return explore(n, states, links, class, work, a);
+    }
+    finish(n, states, links, class, work, a)
+}
+
+// Searches from root, unless it is finished already: every piece of the class that root reaches is then finished, with its leader.
+fn search(n: usize, states: &[u8], links: &[u16], class: u8, work: &mut [u32], root: usize)
+    requires { ⌜ Started n (now states) (now links) class (now work) root ⌝ }
+    ensures { λ _. ⌜ Searched n (now (states .entry)) (now (links .entry)) class (now (work .entry)) root (now (work .exit)) ⌝ }
+{
+    if get(work, root) == 0 {
+        push(n, work, 0, 0, 0, root);
+        let mut a = At {
+            size: 1,
+            blocks: 1,
+            stand: 0,
+            piece: root,
+            place: 0,
+        };
+        while 0 < a.size {
+            a = step(n, states, links, class, work, a);
+        }
+    }
+}
+
+// Finishes every piece of the class that root reaches, and no other, each with its leader.
+pub fn visit(n: usize, states: &[u8], links: &[u16], class: u8, work: &mut [u32], root: usize)
+    requires { ⌜ Ready n (now states) (now links) class (now work) × (root < n) × (now states ! root ≡ class) ⌝ }
+    ensures { λ _. ⌜ Marked n (now (links .entry)) (Reached n (now (states .entry)) (now (links .entry)) class root) (now (work .entry)) (now (work .exit)) ⌝ }
+{
+    search(n, states, links, class, work, root);
+}
+
+// Finishes every piece of the class, and no other, each with its leader.
+pub fn visit_all(n: usize, states: &[u8], links: &[u16], class: u8, work: &mut [u32])
+    requires { ⌜ Ready n (now states) (now links) class (now work) ⌝ }
+    ensures { λ _. ⌜ Marked n (now (links .entry)) (Of (now (states .entry)) class) (now (work .entry)) (now (work .exit)) ⌝ }
+{
+    let mut next = 0;
+    while next < n {
+        let root = next;
+        next += 1;
+        if states[root] == class {
+            search(n, states, links, class, work, root);
+        }
+    }
+}

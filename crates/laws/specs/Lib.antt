@@ -1,0 +1,17 @@
+pub mod Tests
+pub mod Below
+pub mod Reach
+pub mod Words
+pub mod Sound
+pub mod Settle
+pub mod Commands
+pub mod Verdicts
+pub mod Counts
+pub mod Delta
+pub mod Groups
+pub mod Kept
+pub mod Calls
+pub mod Held
+pub mod History
+pub mod Freed
+pub mod Demand3

@@ -1,0 +1,55 @@
+-- The ground of a search: the pieces below n, what their places name, and a class of pieces by state.
+use mathlib.Core.Path.{_≡_, sym, subst}
+use mathlib.Core.List.{List}
+use Prim.Native.Nat.{ℕ, _+_, _*_, _≤_, _<_}
+use native.Mathlib.Omega.{arith}
+use lib.ListN.{getD}
+use Rattle.rules.specs.Reach.{Link, Reach, here, chain}
+use Rattle.laws.specs.Words.{trans}
+
+infixl 90 _!_
+abbrev pub _!_ : List ℕ → ℕ → ℕ
+l ! i = getD l i 0
+
+-- the four links of piece p start at entry 4p
+abbrev pub named : List ℕ → ℕ → ℕ → ℕ
+named links p k = links ! (4 * p + k)
+
+-- l is the lowest of all that p reaches and that reach p
+pub record Lead (n : ℕ) (at : ℕ → ℕ → ℕ) (p l : ℕ) : Type 0 where
+  pub there : Reach n at p l
+  pub back : Reach n at l p
+  pub lowest : (q : ℕ) → Reach n at p q → Reach n at q p → l ≤ q
+
+pub lead-one : {n : ℕ} {at : ℕ → ℕ → ℕ} {p l m : ℕ} → Lead n at p l → Lead n at p m → l ≡ m
+lead-one {l = l} {m = m} a b = omega (arith, a .lowest m (b .there) (b .back), b .lowest l (a .there) (a .back))
+
+pub record Ground : Type 0 where
+  pub n : ℕ
+  pub at : ℕ → ℕ → ℕ
+  pub state : ℕ → ℕ
+  pub class : ℕ
+
+-- the ground of the tables
+abbrev pub ground : ℕ → List ℕ → List ℕ → ℕ → Ground
+ground n states links class = record { n = n; at = named links; state = λ p. states ! p; class = class }
+
+module _ (g : Ground) where
+  abbrev pub Step : ℕ → ℕ → Type 0
+  Step p q = Link (g .n) (g .at) p q
+
+  abbrev pub Way : ℕ → ℕ → Type 0
+  Way p q = Reach (g .n) (g .at) p q
+
+  abbrev pub Leads : ℕ → ℕ → Type 0
+  Leads p l = Lead (g .n) (g .at) p l
+
+  -- what leaves the class does not come back to it
+  pub record Closed : Type 0 where
+    pub stays : (p q r : ℕ) → g .state p ≡ g .class → Step p q → (g .state q ≡ g .class → ⊥) → g .state r ≡ g .class → Way q r → ⊥
+
+pub one-step : {n : ℕ} {at : ℕ → ℕ → ℕ} {p q : ℕ} → Link n at p q → Reach n at p q
+one-step l = chain l here
+
+pub way-at : {n : ℕ} {at : ℕ → ℕ → ℕ} {p p′ q q′ : ℕ} → p′ ≡ p → q′ ≡ q → Reach n at p q → Reach n at p′ q′
+way-at {n} {at} {p} {p′} {q} {q′} d e r = subst (λ (x : ℕ). Reach n at x q′) (sym d) (subst (λ (x : ℕ). Reach n at p x) (sym e) r)

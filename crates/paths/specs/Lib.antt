@@ -1,0 +1,8 @@
+pub mod Ground
+pub mod Search
+pub mod Tools
+pub mod Sums
+pub mod Runs
+pub mod Stays
+pub mod Classes
+pub mod Moves

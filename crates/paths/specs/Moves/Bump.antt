@@ -1,0 +1,89 @@
+-- A place is explored: its piece's counter goes up by one.
+use mathlib.Core.Path.{_≡_, refl, sym, _∙_, ap, subst}
+use mathlib.Core.List.{List}
+use mathlib.Core.Logic.{_⊎_, inl, inr, ⊎-elim}
+use Prim.Native.Nat.{ℕ, zero, suc, pred, _+_, _-_, _*_, _≤_, _<_}
+use native.Mathlib.Omega.{arith}
+use lib.ListN.{getD, length, set, length-set}
+use Rattle.rules.specs.Reach.{Link, Reach, here, chain}
+use Rattle.laws.specs.Words.{trans}
+use Rattle.paths.specs.Ground.{Ground, Step, Way, Leads, Closed, _!_, one-step, way-at}
+use Rattle.paths.specs.Search.{finished, sign, count, Stack, Starts, Trail, Explored, Ends, Standing, Regions, Sizes, Steady, Invariant}
+use Rattle.paths.specs.Tools.{eq-or, lt-or, set-same, set-other, set-cases, ext-cases}
+use Rattle.paths.specs.Sums.{count-lt, count-le, count-same, count-more}
+use Rattle.paths.specs.Runs.{up-to, back-to}
+
+abbrev pub bumped : Regions → ℕ → Regions
+bumped s v = record { marks = s .marks; next = set (s .next) v (suc (s .next ! v)); leaders = s .leaders; stack = s .stack; starts = s .starts; parents = s .parents }
+
+module _ (g : Ground) (old : List ℕ) (root : ℕ) (s : Regions) (size blocks stand : ℕ) (I : Invariant g old root s size blocks stand) (q : ℕ) (q-lt : q < size)
+    (more : s .next ! (s .stack ! q) < 4)
+    (good : g .at (s .stack ! q) (s .next ! (s .stack ! q)) < g .n → g .state (g .at (s .stack ! q) (s .next ! (s .stack ! q))) ≡ g .class
+    → (i : ℕ) → i < blocks → s .starts ! i ≤ q → s .starts ! i < s .marks ! (g .at (s .stack ! q) (s .next ! (s .stack ! q)))) where
+  v-lt : s .stack ! q < length (s .next)
+  v-lt = omega (arith, I .base .stack .stack-lt q q-lt, I .base .sizes .next-n)
+
+  still : (x : ℕ) → s .next ! x ≡ 4 → bumped s (s .stack ! q) .next ! x ≡ 4
+  still x e =
+      ⊎-elim
+      (λ w. absurd (omega (arith, ap (λ (u : ℕ). s .next ! u) (w .0))))
+      (λ w. w .1 ∙ e)
+      (set-cases (s .next) (s .stack ! q) (suc (s .next ! (s .stack ! q))) x v-lt)
+
+  inj : (p : ℕ) → p < size → s .stack ! p ≡ s .stack ! q → p ≡ q
+  inj p lt e = omega (arith, I .base .stack .stack-marks p lt, I .base .stack .stack-marks q q-lt, ap (λ (u : ℕ). s .marks ! u) e)
+
+  seen : (p : ℕ) → p < size → (j : ℕ) → j < bumped s (s .stack ! q) .next ! (s .stack ! p) → g .at (s .stack ! p) j < g .n → g .state (g .at (s .stack ! p) j) ≡ g .class
+      → (i : ℕ) → i < blocks → s .starts ! i ≤ p → s .starts ! i < s .marks ! (g .at (s .stack ! p) j)
+  seen p lt j j-lt =
+      ⊎-elim
+      (λ w.
+      let e : p ≡ q = inj p lt (w .0) in
+      ⊎-elim
+      (λ l. I .base .explored .seen p lt j (omega (arith, ap (λ (u : ℕ). s .next ! u) (w .0))))
+      (λ h.
+      let ej : j ≡ s .next ! (s .stack ! q) = omega (arith, w .1) in
+      subst (λ (p : ℕ). g .at (s .stack ! p) j < g .n → g .state (g .at (s .stack ! p) j) ≡ g .class
+      → (i : ℕ) → i < blocks → s .starts ! i ≤ p → s .starts ! i < s .marks ! (g .at (s .stack ! p) j)) (sym e)
+      (subst (λ (j : ℕ). g .at (s .stack ! q) j < g .n → g .state (g .at (s .stack ! q) j) ≡ g .class
+      → (i : ℕ) → i < blocks → s .starts ! i ≤ q → s .starts ! i < s .marks ! (g .at (s .stack ! q) j)) (sym ej) good))
+      (lt-or j (s .next ! (s .stack ! q))))
+      (λ w. I .base .explored .seen p lt j (omega (arith, w .1)))
+      (set-cases (s .next) (s .stack ! q) (suc (s .next ! (s .stack ! q))) (s .stack ! p) v-lt)
+
+  pub bump : Invariant g old root (bumped s (s .stack ! q)) size blocks stand
+  bump = record {
+    base = record {
+      small = I .base .small;
+      sizes = record { marks-n = I .base .sizes .marks-n; next-n = simp length-set (I .base .sizes .next-n); leaders-n = I .base .sizes .leaders-n; stack-n = I .base .sizes .stack-n; starts-n = I .base .sizes .starts-n; parents-n = I .base .sizes .parents-n };
+      stack = I .base .stack;
+      bounds = I .base .bounds;
+      trail = record {
+        par-le = I .base .trail .par-le;
+        par-lt = I .base .trail .par-lt;
+        par-in = I .base .trail .par-in;
+        par-full = λ p lt pos r a b. still (s .stack ! r) (I .base .trail .par-full p lt pos r a b);
+        up = I .base .trail .up;
+        back = I .base .trail .back;
+      };
+      explored = record {
+        four = λ v lt.
+            ⊎-elim (λ w. omega (arith, w .1)) (λ w. omega (arith, w .1, I .base .explored .four v lt))
+            (set-cases (s .next) (s .stack ! q) (suc (s .next ! (s .stack ! q))) v v-lt);
+        fresh = λ v lt z.
+            set-other (s .next) (s .stack ! q) v (suc (s .next ! (s .stack ! q))) (λ e. omega (arith, I .base .stack .stack-marks q q-lt, ap (λ (u : ℕ). s .marks ! u) e)) ∙ I .base .explored .fresh v lt z;
+        seen = seen;
+      };
+      ends = I .base .ends;
+    };
+    live = λ pos.
+        let L = I .live pos in
+        record {
+          stand-lt = L .stand-lt;
+          stand-in = L .stand-in;
+          stand-full = λ r a b. still (s .stack ! r) (L .stand-full r a b);
+          top = L .top;
+          first = L .first;
+        };
+    rooted = I .rooted;
+  }

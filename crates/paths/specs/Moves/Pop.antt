@@ -1,0 +1,247 @@
+-- A piece with all places explored that starts the last block: the block is a group, and is finished.
+use mathlib.Core.Path.{_≡_, refl, sym, _∙_, ap, subst}
+use mathlib.Core.List.{List}
+use mathlib.Core.Logic.{_⊎_, inl, inr, ⊎-elim}
+use Prim.Native.Nat.{ℕ, zero, suc, pred, _+_, _-_, _*_, _≤_, _<_}
+use native.Mathlib.Omega.{arith}
+use lib.ListN.{getD, length, set, length-set}
+use Rattle.rules.specs.Reach.{Link, Reach, here, chain}
+use Rattle.laws.specs.Words.{trans}
+use Rattle.paths.specs.Ground.{Ground, Step, Way, Leads, Closed, _!_, one-step, way-at}
+use Rattle.paths.specs.Search.{finished, sign, count, Stack, Starts, Trail, Explored, Ends, Standing, Regions, Sizes, Steady, Invariant}
+use Rattle.paths.specs.Tools.{eq-or, lt-or, set-same, set-other, set-cases, ext-cases}
+use Rattle.paths.specs.Sums.{count-lt, count-le, count-same, count-more}
+use Rattle.paths.specs.Runs.{up-to, back-to}
+use Rattle.paths.specs.Stays.{kept-in}
+
+abbrev pub popped : Regions → List ℕ → List ℕ → Regions
+popped s marks leaders = record { marks = marks; next = s .next; leaders = leaders; stack = s .stack; starts = s .starts; parents = s .parents }
+
+-- what the loop that finishes a block has done
+pub record Closing (g : Ground) (marks leaders stack : List ℕ) (stand size low : ℕ) (marks′ leaders′ : List ℕ) : Type 0 where
+  pub marks-len : length marks′ ≡ length marks
+  pub leaders-len : length leaders′ ≡ length leaders
+  pub hit : (q : ℕ) → stand ≤ q → q < size → (marks′ ! (stack ! q) ≡ finished) × (leaders′ ! (stack ! q) ≡ low)
+  pub miss : (u : ℕ) → u < g .n → ((q : ℕ) → stand ≤ q → q < size → stack ! q ≡ u → ⊥) → (marks′ ! u ≡ marks ! u) × (leaders′ ! u ≡ leaders ! u)
+
+pub record Lowest (stack : List ℕ) (stand size low : ℕ) : Type 0 where
+  pub place : ℕ
+  pub from-stand : stand ≤ place
+  pub to-size : place < size
+  pub is : stack ! place ≡ low
+  pub least : (q : ℕ) → stand ≤ q → q < size → low ≤ stack ! q
+
+module _ (g : Ground) (C : Closed g) (old : List ℕ) (root : ℕ) (s : Regions) (size blocks stand : ℕ) (I : Invariant g old root s size blocks stand) (live : 0 < size)
+    (full : s .next ! (s .stack ! stand) ≡ 4) (starts : s .starts ! pred blocks ≡ stand) (low : ℕ) (lowest : Lowest (s .stack) stand size low)
+    (marks′ leaders′ : List ℕ) (did : Closing g (s .marks) (s .leaders) (s .stack) stand size low marks′ leaders′) where
+  L : Standing g (s .next) (s .stack) (s .starts) root size blocks stand
+  L = I .live live
+
+  blocks-pos : 0 < blocks
+  blocks-pos = I .base .bounds .some live
+
+  abbrev In : ℕ → Type 0
+  In u = (q : ℕ) × (stand ≤ q) × (q < size) × (s .stack ! q ≡ u)
+
+  abbrev Out : ℕ → Type 0
+  Out u = (q : ℕ) → stand ≤ q → q < size → s .stack ! q ≡ u → ⊥
+
+  pos : (p q : ℕ) → p < size → q < size → s .stack ! p ≡ s .stack ! q → p ≡ q
+  pos p q a b e = omega (arith, I .base .stack .stack-marks p a, I .base .stack .stack-marks q b, ap (λ (u : ℕ). s .marks ! u) e)
+
+  low-or : (u : ℕ) → u < g .n → In u ⊎ Out u
+  low-or u lt =
+      ⊎-elim
+      (λ z. inr (λ q a b e. omega (arith, I .base .stack .stack-marks q b, ap (λ (u : ℕ). s .marks ! u) e)))
+      (λ nz. ⊎-elim
+      (λ f. inr (λ q a b e. omega (arith, I .base .stack .stack-marks q b, ap (λ (u : ℕ). s .marks ! u) e, I .base .small, I .base .stack .few, count-le (s .marks) (g .n))))
+      (λ nf.
+      let o = I .base .stack .marks-stack u lt nz nf in
+      ⊎-elim
+      (λ h. inr (λ q a b e. omega (arith, o .1, I .base .stack .stack-marks q b, ap (λ (u : ℕ). s .marks ! u) e)))
+      (λ h. inl (o .0, h, o .2, o .3))
+      (lt-or (o .0) stand))
+      (eq-or (s .marks ! u) finished))
+      (eq-or (s .marks ! u) 0)
+
+  in-marks : (u : ℕ) → In u → marks′ ! u ≡ finished
+  in-marks u i = ap (λ (x : ℕ). marks′ ! x) (sym (i .3)) ∙ did .hit (i .0) (i .1) (i .2) .0
+
+  in-leaders : (u : ℕ) → In u → leaders′ ! u ≡ low
+  in-leaders u i = ap (λ (x : ℕ). leaders′ ! x) (sym (i .3)) ∙ did .hit (i .0) (i .1) (i .2) .1
+
+  in-old : (u : ℕ) → (i : In u) → s .marks ! u ≡ suc (i .0)
+  in-old u i = ap (λ (x : ℕ). s .marks ! x) (sym (i .3)) ∙ I .base .stack .stack-marks (i .0) (i .2)
+
+  in-not-fin : (u : ℕ) → In u → s .marks ! u ≡ finished → ⊥
+  in-not-fin u i e = omega (arith, in-old u i, i .2, I .base .small, I .base .stack .few, count-le (s .marks) (g .n))
+
+  out-marks : (u : ℕ) → u < g .n → Out u → marks′ ! u ≡ s .marks ! u
+  out-marks u lt o = did .miss u lt o .0
+
+  below-out : (q : ℕ) → q < stand → Out (s .stack ! q)
+  below-out q lt p a b e = omega (arith, pos p q b (omega (arith, L .stand-lt)) e)
+
+  fin-up : (u : ℕ) → u < g .n → s .marks ! u ≡ finished → marks′ ! u ≡ finished
+  fin-up u lt e = ⊎-elim (λ i. in-marks u i) (λ o. out-marks u lt o ∙ e) (low-or u lt)
+
+  zero-down : (u : ℕ) → u < g .n → marks′ ! u ≡ 0 → s .marks ! u ≡ 0
+  zero-down u lt e = ⊎-elim (λ i. absurd (omega (arith, in-marks u i))) (λ o. sym (out-marks u lt o) ∙ e) (low-or u lt)
+
+  sign-same : (u : ℕ) → u < g .n → sign (s .marks ! u) ≡ sign (marks′ ! u)
+  unfolding sign
+  sign-same u lt = ⊎-elim (λ i. ap sign (in-old u i) ∙ sym (ap sign (in-marks u i))) (λ o. ap sign (sym (out-marks u lt o))) (low-or u lt)
+
+  stack : Stack g marks′ (s .stack) stand
+  stack = record {
+    stack-lt = λ q lt. I .base .stack .stack-lt q (omega (arith, L .stand-lt));
+    stack-marks = λ q lt. out-marks (s .stack ! q) (I .base .stack .stack-lt q (omega (arith, L .stand-lt))) (below-out q lt) ∙ I .base .stack .stack-marks q (omega (arith, L .stand-lt));
+    marks-stack = λ v lt a b.
+        ⊎-elim
+        (λ i. absurd (b (in-marks v i)))
+        (λ o.
+        let e = out-marks v lt o in
+        let r = I .base .stack .marks-stack v lt (λ z. a (e ∙ z)) (λ z. b (e ∙ z)) in
+        ⊎-elim
+        (λ h. (r .0, e ∙ r .1, h, r .3))
+        (λ h. absurd (o (r .0) h (r .2) (r .3)))
+        (lt-or (r .0) stand))
+        (low-or v lt);
+    inside = λ v lt a. I .base .stack .inside v lt (λ z. ⊎-elim
+        (λ i. omega (arith, in-old v i)) (λ o. a (out-marks v lt o ∙ z)) (low-or v lt));
+    few = omega (arith, L .stand-lt, I .base .stack .few, count-same (s .marks) marks′ (g .n) sign-same);
+  }
+
+  last-below : (i : ℕ) → i < pred blocks → s .starts ! i < stand
+  last-below i lt = omega (arith, I .base .bounds .mono i (pred blocks) lt (omega (arith, blocks-pos)), starts)
+
+  bounds : Starts (s .starts) stand (pred blocks)
+  bounds = record {
+    some = λ h. ⊎-elim (λ p. p) (λ z.
+        let e : pred blocks ≡ 0 = omega arith in
+        absurd (omega (arith, starts, ap (λ (m : ℕ). s .starts ! m) e, I .base .bounds .base blocks-pos))) (lt-or 0 (pred blocks));
+    base = λ h. I .base .bounds .base blocks-pos;
+    mono = λ i j a b. I .base .bounds .mono i j a (omega arith);
+    below = last-below;
+    rank = λ i lt. I .base .bounds .rank i (omega arith);
+  }
+
+  trail : Trail g (s .next) (s .stack) (s .starts) (s .parents) stand (pred blocks)
+  trail = record {
+    par-le = λ q lt. I .base .trail .par-le q (omega (arith, L .stand-lt));
+    par-lt = λ q lt. I .base .trail .par-lt q (omega (arith, L .stand-lt));
+    par-in = λ q lt p i u. I .base .trail .par-in q (omega (arith, L .stand-lt)) p i (omega arith);
+    par-full = λ q lt. I .base .trail .par-full q (omega (arith, L .stand-lt));
+    up = λ q lt. I .base .trail .up q (omega (arith, L .stand-lt));
+    back = λ q lt none. I .base .trail .back q (omega (arith, L .stand-lt)) (λ i u e.
+        ⊎-elim (λ h. none i h e)
+        (λ h. let m : i ≡ pred blocks = omega arith in omega (arith, starts, ap (λ (m : ℕ). s .starts ! m) m))
+        (lt-or i (pred blocks)));
+  }
+
+  explored : Explored g marks′ (s .next) (s .stack) (s .starts) stand (pred blocks)
+  explored = record {
+    four = I .base .explored .four;
+    fresh = λ v lt z. I .base .explored .fresh v lt (zero-down v lt z);
+    seen = λ q lt j u v w i x y.
+        let o = I .base .explored .seen q (omega (arith, L .stand-lt)) j u v w i (omega arith) y in
+        ⊎-elim
+        (λ n. omega (arith, in-marks _ n, last-below i x, L .stand-lt, I .base .small, I .base .stack .few, count-le (s .marks) (g .n)))
+        (λ n. omega (arith, o, out-marks (g .at (s .stack ! q) j) v n))
+        (low-or (g .at (s .stack ! q) j) v);
+  }
+
+  -- all places of a piece of the block are explored
+  all-four : (q : ℕ) → stand ≤ q → q < size → s .next ! (s .stack ! q) ≡ 4
+  all-four q a b = ⊎-elim (λ e. ap (λ (m : ℕ). s .next ! (s .stack ! m)) e ∙ full) (λ f. L .stand-full q (omega (arith, f)) b) (eq-or q stand)
+
+  block-closed : (q : ℕ) → stand ≤ q → q < size → (j : ℕ) → j < 4 → g .at (s .stack ! q) j < g .n → g .state (g .at (s .stack ! q) j) ≡ g .class → marks′ ! (g .at (s .stack ! q) j) ≡ finished
+  block-closed q a b j u v w =
+      let t : ℕ = g .at (s .stack ! q) j in
+      let o : s .starts ! pred blocks < s .marks ! t = I .base .explored .seen q b j (omega (arith, all-four q a b)) v w (pred blocks) (omega (arith, blocks-pos)) (omega (arith, starts)) in
+      ⊎-elim
+      (λ f. fin-up t v f)
+      (λ nf.
+      let r = I .base .stack .marks-stack t v (λ z. omega (arith, z, o)) nf in
+      in-marks t ((r .0, omega (arith, r .1, o, starts), r .2, r .3)))
+      (eq-or (s .marks ! t) finished)
+
+  closed : (x : ℕ) → x < g .n → marks′ ! x ≡ finished → (j : ℕ) → j < 4 → g .at x j < g .n → g .state (g .at x j) ≡ g .class → marks′ ! (g .at x j) ≡ finished
+  closed x lt e j u =
+      ⊎-elim
+      (λ i. subst (λ (x : ℕ). g .at x j < g .n → g .state (g .at x j) ≡ g .class → marks′ ! (g .at x j) ≡ finished) (i .3) (block-closed (i .0) (i .1) (i .2) j u))
+      (λ o v w. fin-up (g .at x j) v (I .base .ends .closed x lt (sym (out-marks x lt o) ∙ e) j u v w))
+      (low-or x lt)
+
+  -- any two pieces of the block reach each other
+  within : (p q : ℕ) → stand ≤ p → p < size → stand ≤ q → q < size → Way g (s .stack ! p) (s .stack ! q)
+  within p q a b d e =
+      trans (up-to (I .base .trail) p (pred size) (omega arith) (omega arith)) (trans (L .top) (up-to (I .base .trail) stand q d e))
+
+  exact-in : (p : ℕ) → stand ≤ p → p < size → Leads g (s .stack ! p) low
+  exact-in p a b = record {
+    there = way-at refl (sym (lowest .is)) (within p (lowest .place) a b (lowest .from-stand) (lowest .to-size));
+    back = way-at (sym (lowest .is)) refl (within (lowest .place) p (lowest .from-stand) (lowest .to-size) a b);
+    lowest = λ y r r′.
+        let lt : s .stack ! p < g .n = I .base .stack .stack-lt p b in
+        let cx : g .state (s .stack ! p) ≡ g .class = I .base .stack .inside (s .stack ! p) lt (λ z. omega (arith, z, I .base .stack .stack-marks p b)) in
+        let k = kept-in g marks′ C closed (s .stack ! p) cx r r′ lt cx (did .hit p a b .0) in
+        ⊎-elim
+        (λ i. omega (arith, lowest .least (i .0) (i .1) (i .2), i .3))
+        (λ o.
+        let yf : s .marks ! y ≡ finished = sym (out-marks y (k .0) o) ∙ k .1 in
+        let cy : g .state y ≡ g .class = I .base .stack .inside y (k .0) (λ z. omega (arith, z, yf)) in
+        let m = kept-in g (s .marks) C (I .base .ends .closed) (s .stack ! p) cx r′ here (k .0) cy yf in
+        absurd (in-not-fin (s .stack ! p) ((p, a, b, refl)) (m .1)))
+        (low-or y (k .0));
+  }
+
+  ends : Ends g old marks′ leaders′ root
+  ends = record {
+    closed = closed;
+    exact = λ x lt e.
+        ⊎-elim
+        (λ i. subst (λ (l : ℕ). Leads g x l) (sym (in-leaders x i)) (subst (λ (x : ℕ). Leads g x low) (i .3) (exact-in (i .0) (i .1) (i .2))))
+        (λ o. subst (λ (l : ℕ). Leads g x l) (sym (did .miss x lt o .1)) (I .base .ends .exact x lt (sym (out-marks x lt o) ∙ e)))
+        (low-or x lt);
+    «from» = λ x lt e.
+        ⊎-elim
+        (λ i. inr (way-at (sym (L .first)) (sym (i .3)) (up-to (I .base .trail) 0 (i .0) (omega arith) (i .2))))
+        (λ o. I .base .ends .«from» x lt (sym (out-marks x lt o) ∙ e))
+        (low-or x lt);
+    kept = λ x lt e. fin-up x lt (I .base .ends .kept x lt e);
+  }
+
+  root-lt : root < g .n
+  root-lt = omega (arith, I .base .stack .stack-lt 0 live, L .first)
+
+  pub pop : Invariant g old root (popped s marks′ leaders′) stand (pred blocks) (s .parents ! stand)
+  pop = record {
+    base = record {
+      small = I .base .small;
+      sizes = record {
+        marks-n = did .marks-len ∙ I .base .sizes .marks-n;
+        next-n = I .base .sizes .next-n;
+        leaders-n = did .leaders-len ∙ I .base .sizes .leaders-n;
+        stack-n = I .base .sizes .stack-n;
+        starts-n = I .base .sizes .starts-n;
+        parents-n = I .base .sizes .parents-n;
+      };
+      stack = stack;
+      bounds = bounds;
+      trail = trail;
+      explored = explored;
+      ends = ends;
+    };
+    live = λ p.
+        let down : s .parents ! stand < stand = I .base .trail .par-lt stand (L .stand-lt) p in
+        record {
+          stand-lt = down;
+          stand-in = λ i lt. I .base .trail .par-in stand (L .stand-lt) p i (omega arith) (last-below i lt);
+          stand-full = λ r a b. I .base .trail .par-full stand (L .stand-lt) p r a b;
+          top = back-to trail (s .parents ! stand) (pred stand) (omega arith) (omega arith)
+              (λ i lt a b. omega (arith, I .base .trail .par-in stand (L .stand-lt) p i (omega arith) (last-below i lt)));
+          first = L .first;
+        };
+    rooted = λ e. I .rooted (zero-down root root-lt e);
+  }

@@ -1,0 +1,69 @@
+-- Where a search begins, and where it ends.
+use mathlib.Core.Path.{_≡_, refl, sym, _∙_, ap, subst}
+use mathlib.Core.List.{List}
+use mathlib.Core.Logic.{_⊎_, inl, inr, ⊎-elim}
+use Prim.Native.Nat.{ℕ, zero, suc, pred, _+_, _-_, _*_, _≤_, _<_}
+use native.Mathlib.Omega.{arith}
+use lib.ListN.{getD, length, set, length-set}
+use Rattle.rules.specs.Reach.{Link, Reach, here, chain}
+use Rattle.laws.specs.Words.{trans}
+use Rattle.paths.specs.Ground.{Ground, Step, Way, Leads, Closed, _!_, one-step, way-at}
+use Rattle.paths.specs.Search.{finished, sign, count, Stack, Starts, Trail, Explored, Ends, Standing, Regions, Sizes, Steady, Invariant}
+use Rattle.paths.specs.Tools.{eq-or, lt-or, set-same, set-other, set-cases, ext-cases}
+use Rattle.paths.specs.Sums.{count-lt, count-le, count-same, count-more}
+use Rattle.paths.specs.Runs.{up-to, back-to}
+use Rattle.paths.specs.Search.{Calm, Visited}
+use Rattle.paths.specs.Stays.{kept-in}
+
+pub begins : (g : Ground) (s : Regions) (root : ℕ) → Sizes (g .n) s → Calm g (s .marks) (s .next) (s .leaders) → Steady g (s .marks) root s 0 0
+begins g s root Z K = record {
+  small = K .small;
+  sizes = Z;
+  stack = record {
+    stack-lt = λ q lt. absurd (omega arith);
+    stack-marks = λ q lt. absurd (omega arith);
+    marks-stack = λ v lt a b. absurd (⊎-elim a b (K .either v lt));
+    inside = λ v lt a. ⊎-elim (λ z. absurd (a z)) (λ e. K .inside v lt e) (K .either v lt);
+    few = omega arith;
+  };
+  bounds = record {
+    some = λ h. absurd (omega arith);
+    base = λ h. absurd (omega arith);
+    mono = λ i j a b. absurd (omega arith);
+    below = λ i a. absurd (omega arith);
+    rank = λ i a. absurd (omega arith);
+  };
+  trail = record {
+    par-le = λ q a. absurd (omega arith);
+    par-lt = λ q a. absurd (omega arith);
+    par-in = λ q a. absurd (omega arith);
+    par-full = λ q a. absurd (omega arith);
+    up = λ q a. absurd (omega arith);
+    back = λ q a. absurd (omega arith);
+  };
+  explored = record { four = K .four; fresh = K .fresh; seen = λ q a. absurd (omega arith) };
+  ends = record { closed = K .closed; exact = K .exact; «from» = λ x lt e. inl e; kept = λ x lt e. e };
+}
+
+pub finishes : (g : Ground) → Closed g → (old : List ℕ) (s : Regions) (root blocks stand : ℕ) → root < g .n → Invariant g old root s 0 blocks stand
+    → Visited g old (s .marks) (s .next) (s .leaders) root
+finishes g C old s root blocks stand root-lt I =
+    let either : (v : ℕ) → v < g .n → (s .marks ! v ≡ 0) ⊎ (s .marks ! v ≡ finished) =
+    λ v lt. ⊎-elim (λ z. inl z) (λ nz. ⊎-elim (λ f. inr f) (λ nf. absurd (omega (arith, I .base .stack .marks-stack v lt nz nf .2))) (eq-or (s .marks ! v) finished)) (eq-or (s .marks ! v) 0)
+    in
+    let root-fin : s .marks ! root ≡ finished = ⊎-elim (λ z. absurd (I .rooted z)) (λ e. e) (either root root-lt) in
+    let inside : (v : ℕ) → v < g .n → s .marks ! v ≡ finished → g .state v ≡ g .class = λ v lt e. I .base .stack .inside v lt (λ z. omega (arith, z, e)) in
+    record {
+      calm = record {
+        small = I .base .small;
+        either = either;
+        inside = inside;
+        four = I .base .explored .four;
+        fresh = I .base .explored .fresh;
+        closed = I .base .ends .closed;
+        exact = I .base .ends .exact;
+      };
+      kept = I .base .ends .kept;
+      reached = λ x lt cx r. kept-in g (s .marks) C (I .base .ends .closed) x cx r here root-lt (inside root root-lt root-fin) root-fin .1;
+      «only» = I .base .ends .«from»;
+    }

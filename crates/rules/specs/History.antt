@@ -1,0 +1,165 @@
+-- Demand 3's words: a history of calls, which pieces are held by it, and what a call lists.
+use mathlib.Core.Path.{_≡_}
+use mathlib.Core.Logic.{_⊎_, _↔_}
+use mathlib.Core.Bool.{Bool, true, false, not}
+use mathlib.Core.List.{List, [], _∷_, _++_}
+use Prim.Native.Nat.{ℕ, _+_, _<_}
+use lib.Dec.{T, eqb}
+use lib.ListN.{length, take, drop}
+use Rattle.rules.specs.Tests.{_or_, _&_, pick, onlyIf}
+use Rattle.rules.specs.Lists.{Among, Ascending}
+use Rattle.rules.specs.Tables.{Base, Store, state, empty}
+use Rattle.rules.specs.Words.{Draft, Frozen, Live, Reaches}
+use Rattle.rules.specs.Commands.{edit}
+use Rattle.rules.specs.Calls.{Call, start, does, check, Areas, Reply, answered, saw, checked, Outcome, Promise}
+use Rattle.rules.specs.declared.Command.{Command}
+use Rattle.rules.specs.declared.Command.the-variants.{New, Set, Freeze, Acquire, Release, Bin, Look}
+use Rattle.rules.specs.declared.Answer.{Answer}
+use Rattle.rules.specs.declared.Answer.the-variants.{Done, Refused}
+use Rattle.rules.specs.declared.Seen.{Seen}
+use Rattle.rules.specs.declared.Seen.the-variants.{Piece, Unseen}
+use Rattle.rules.specs.declared.Checked.{Checked}
+use Rattle.rules.specs.declared.Checked.the-variants.{Yes, No, Unchecked}
+
+-- a call as it was made, and what came of it
+pub record Event : Type 0 where
+  pub call : Call
+  pub came : Outcome
+
+abbrev pub event : Call → Outcome → Event
+event c o = record { call = c; came = o }
+
+unfoldable pub isAccepted : Reply → Bool
+isAccepted (answered (Done v f)) = true
+isAccepted (answered (Refused r)) = false
+isAccepted (saw (Piece s l c h)) = true
+isAccepted (saw (Unseen r)) = false
+isAccepted (checked Yes) = true
+isAccepted (checked No) = true
+isAccepted (checked (Unchecked r)) = false
+
+-- Start from an empty store of capacity n, make any sequence of calls, refused ones included, the accepted ones all at its one capacity and on its
+-- whole tables, and let nothing else write to its tables: the calls, the newest first, and the store that stands after them
+pub data History (n : ℕ) : List Event → Store → Type 0 where
+  begun : History n [] (empty n)
+  refusing : {h : List Event} {s : Store} (c : Call) (lent : Areas) (o : Outcome) → History n h s → Promise c lent o
+      → T (not (isAccepted (o .reply))) → History n (event c o ∷ h) s
+  accepting : {h : List Event} (c : Call) (lent : Areas) (o : Outcome) → History n h (lent .store) → Promise c lent o
+      → T (isAccepted (o .reply)) → History n (event c o ∷ h) (o .areas .store)
+
+-- ---- held: since the number was last given out, accepted freezes and acquires naming it outnumber accepted releases
+
+-- a freeze or an acquire naming p
+unfoldable pub addsTo : ℕ → Command → Bool
+addsTo p New = false
+addsTo p (Set q k t) = false
+addsTo p (Freeze q) = eqb q p
+addsTo p (Acquire q) = eqb q p
+addsTo p (Release q) = false
+addsTo p (Bin q) = false
+addsTo p (Look q) = false
+
+-- a release naming p
+unfoldable pub takesFrom : ℕ → Command → Bool
+takesFrom p New = false
+takesFrom p (Set q k t) = false
+takesFrom p (Freeze q) = false
+takesFrom p (Acquire q) = false
+takesFrom p (Release q) = eqb q p
+takesFrom p (Bin q) = false
+takesFrom p (Look q) = false
+
+-- of the calls, those of a command with f
+unfoldable pub commands : (Command → Bool) → Call → Bool
+commands f start = false
+commands f (does c) = f c
+commands f check = false
+
+-- an accepted call of a command with f
+unfoldable pub acceptedOf : (Command → Bool) → Event → Bool
+acceptedOf f e = isAccepted (e .came .reply) & commands f (e .call)
+
+abbrev pub isNew : Command → Bool
+isNew New = true
+isNew (Set p k t) = false
+isNew (Freeze p) = false
+isNew (Acquire p) = false
+isNew (Release p) = false
+isNew (Bin p) = false
+isNew (Look p) = false
+
+-- the answer's value is p
+unfoldable pub hasValue : ℕ → Reply → Bool
+hasValue p (answered (Done v f)) = eqb v p
+hasValue p (answered (Refused r)) = false
+hasValue p (saw s) = false
+hasValue p (checked c) = false
+
+-- an accepted new gave out p
+unfoldable pub givesOut : ℕ → Event → Bool
+givesOut p e = commands isNew (e .call) & hasValue p (e .came .reply)
+
+abbrev pub isStart : Call → Bool
+isStart start = true
+isStart (does c) = false
+isStart check = false
+
+-- A start begins the history anew
+unfoldable pub starts : Event → Bool
+starts e = isStart (e .call) & isAccepted (e .came .reply)
+
+-- the calls since p was last given out
+unfoldable pub since : ℕ → List Event → List Event
+since p [] = []
+since p (e ∷ h) = pick (givesOut p e or starts e) [] (e ∷ since p h)
+
+-- how many of the calls have f
+unfoldable pub often : (Event → Bool) → List Event → ℕ
+often f [] = 0
+often f (e ∷ h) = onlyIf (f e) 1 + often f h
+
+unfoldable pub added : ℕ → List Event → ℕ
+added p h = often (acceptedOf (addsTo p)) (since p h)
+
+unfoldable pub taken : ℕ → List Event → ℕ
+taken p h = often (acceptedOf (takesFrom p)) (since p h)
+
+abbrev pub Held : List Event → ℕ → Type 0
+Held h p = taken p h < added p h
+
+-- ---- what a call lists and frees
+
+-- the number freed
+unfoldable pub freedIn : Reply → ℕ
+freedIn (answered (Done v f)) = f
+freedIn (answered (Refused r)) = 0
+freedIn (saw s) = 0
+freedIn (checked c) = 0
+
+-- the numbers freed by this call
+unfoldable pub listed : Outcome → List ℕ
+listed o = take (freedIn (o .reply)) (o .areas .list)
+
+-- a chain of links reaches p from a draft or from a held piece
+pub record Reached (h : List Event) (b : Base) (p : ℕ) : Type 0 where
+  pub root : ℕ
+  pub is : Draft b root ⊎ ((root < b .n) × Held h root)
+  pub reached : Reaches b root p
+
+-- states, links and holds changed as the call says
+unfoldable pub changed : Base → Call → Base
+changed b start = empty (b .n) .base
+changed b (does c) = edit b c
+changed b check = b
+
+-- the call is an accepted bin of p
+abbrev pub Binned : Call → ℕ → Type 0
+Binned c p = c ≡ does (Bin p)
+
+-- Each accepted call lists exactly those frozen pieces that no chain of links reaches any more from a draft or from a held piece, each once, lowest
+-- number first, and besides a binned draft those alone are freed
+pub record Listing (h : List Event) (c : Call) (lent : Areas) (o : Outcome) : Type 0 where
+  pub exact : (p : ℕ) → Among p (listed o) ↔ (Frozen (changed (lent .store .base) c) p × (¬ Reached (event c o ∷ h) (changed (lent .store .base) c) p))
+  pub ascending : Ascending (listed o)
+  pub rest : o .areas .list ≡ listed o ++ drop (length (listed o)) (lent .list)
+  pub alone : (c ≡ start → ⊥) → (p : ℕ) → (Live (lent .store .base) p × (state (o .areas .store .base) p ≡ 0)) ↔ (Among p (listed o) ⊎ Binned c p)

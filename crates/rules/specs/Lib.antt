@@ -1,0 +1,14 @@
+pub mod Tests
+pub mod Limits
+pub mod Below
+pub mod Lists
+pub mod Reach
+pub mod Tables
+pub mod Words
+pub mod Commands
+pub mod Calls
+pub mod Trace
+pub mod Computing
+pub mod History
+pub mod Sets
+pub mod Worked

@@ -1,0 +1,126 @@
+-- Document 01, "Tables and numbers": what the tables hold, and what sound tables are.
+use mathlib.Core.Bool.{Bool, not}
+use mathlib.Core.List.{List}
+use Prim.Native.Nat.{ℕ, _+_, _*_}
+use lib.Dec.{eqb, ltb, leb}
+use lib.ListN.{getD, replicate}
+use Rattle.rules.specs.Tests.{_or_, _&_, pick, onlyIf}
+use Rattle.rules.specs.Limits.{mostHolds, none}
+use Rattle.rules.specs.Reach.{reachb}
+use Rattle.rules.specs.Below.{every, any, sum, table, lowest}
+
+-- states, links and holds at capacity n: leaders and counts follow from these
+pub record Base : Type 0 where
+  pub n : ℕ
+  pub states : List ℕ
+  pub links : List ℕ
+  pub holds : List ℕ
+
+-- the five tables of the store
+pub record Store : Type 0 where
+  pub base : Base
+  pub leaders : List ℕ
+  pub counts : List ℕ
+
+module _ (b : Base) where
+  unfoldable pub state : ℕ → ℕ
+  state p = getD (b .states) p 0
+
+  unfoldable pub isFree : ℕ → Bool
+  isFree p = eqb (state p) 0
+
+  unfoldable pub isDraft : ℕ → Bool
+  isDraft p = eqb (state p) 1
+
+  unfoldable pub isFrozen : ℕ → Bool
+  isFrozen p = eqb (state p) 2
+
+  unfoldable pub isLive : ℕ → Bool
+  isLive p = isDraft p or isFrozen p
+
+  -- the four links of piece p start at entry 4p
+  unfoldable pub linkAt : ℕ → ℕ → ℕ
+  linkAt p k = getD (b .links) (4 * p + k) 0
+
+  unfoldable pub holdsOf : ℕ → ℕ
+  holdsOf p = getD (b .holds) p 0
+
+  -- Reach: P reaches Q if Q is P or a chain of links leads from P to Q
+  unfoldable pub reaches : ℕ → ℕ → Bool
+  reaches p q = reachb (b .n) linkAt p q
+
+  -- Group of a frozen piece: all frozen pieces that it reaches and that reach it
+  unfoldable pub inGroup : ℕ → ℕ → Bool
+  inGroup p q = isFrozen q & reaches p q & reaches q p
+
+  -- Leader: the lowest number in the group
+  unfoldable pub leaderOf : ℕ → ℕ
+  leaderOf p = lowest (inGroup p) (b .n)
+
+  -- the link places of r that name a member of p's group
+  unfoldable pub places : ℕ → ℕ → ℕ
+  places p r = sum (λ k. onlyIf (inGroup p (linkAt r k)) 1) 4
+
+  -- Count: the holds of all members added up, plus every link place of a live piece outside the group (draft or frozen) that names a member
+  unfoldable pub countOf : ℕ → ℕ
+  countOf p = sum (λ q. onlyIf (inGroup p q) (holdsOf q)) (b .n) + sum (λ r. onlyIf (isLive r & not (inGroup p r)) (places p r)) (b .n)
+
+  -- a draft, or a frozen piece with a hold
+  unfoldable pub isRoot : ℕ → Bool
+  isRoot r = isDraft r or isFrozen r & ltb 0 (holdsOf r)
+
+  -- Kept: reached from a draft, or from a frozen piece with a hold
+  unfoldable pub isKept : ℕ → Bool
+  isKept p = any (λ r. isRoot r & reaches r p) (b .n)
+
+  -- leaders: frozen: its group's leader; else none
+  unfoldable pub leaderEntry : ℕ → ℕ
+  leaderEntry p = pick (isFrozen p) (leaderOf p) none
+
+  -- counts: at a leader: the group's count; else 0
+  unfoldable pub countEntry : ℕ → ℕ
+  countEntry p = pick (isFrozen p & eqb (leaderOf p) p) (countOf p) 0
+
+  -- the store with these states, links and holds
+  unfoldable pub finish : Store
+  finish = record { base = b; leaders = table leaderEntry (b .n); counts = table countEntry (b .n) }
+
+  -- f at each of the four links of p
+  unfoldable pub allFour : ℕ → (ℕ → Bool) → Bool
+  allFour p f = every (λ k. f (linkAt p k)) 4
+
+  -- a free piece has four empty links and 0 holds
+  unfoldable pub wellFree : ℕ → Bool
+  wellFree p = isFree p & allFour p (λ t. eqb t none) & eqb (holdsOf p) 0
+
+  -- a draft's links are none or live pieces, with 0 holds
+  unfoldable pub wellDraft : ℕ → Bool
+  wellDraft p = isDraft p & allFour p (λ t. eqb t none or ltb t (b .n) & isLive t) & eqb (holdsOf p) 0
+
+  -- a frozen piece's links are none or frozen, holds at most 1,000
+  unfoldable pub wellFrozen : ℕ → Bool
+  wellFrozen p = isFrozen p & allFour p (λ t. eqb t none or ltb t (b .n) & isFrozen t) & leb (holdsOf p) mostHolds
+
+  unfoldable pub well : ℕ → Bool
+  well p = wellFree p or wellDraft p or wellFrozen p
+
+module _ (s : Store) where
+  abbrev bs : Base
+  bs = s .base
+
+  -- Sound, of one piece: its state, links and holds, its leader, its count, and kept where it is frozen
+  unfoldable pub soundAt : ℕ → Bool
+  soundAt p =
+      well bs p & eqb (getD (s .leaders) p 0) (leaderEntry bs p) & eqb (getD (s .counts) p 0) (countEntry bs p)
+      & (not (isFrozen bs p) or isKept bs p)
+
+  unfoldable pub isSound : Bool
+  isSound = every soundAt (bs .n)
+
+-- In an empty store all links are 65,535, all leaders too, and everything else is 0
+unfoldable pub empty : ℕ → Store
+empty n = record {
+  base = record { n = n; states = replicate n 0; links = replicate (4 * n) none; holds = replicate n 0 };
+  leaders = replicate n none;
+  counts = replicate n 0
+}

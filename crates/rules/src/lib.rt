@@ -1,0 +1,106 @@
+// The store's limits, its refusals, commands and answers, as document 01 names them. What they mean stands in specs/.
+ghost use mathlib.Core.Path.{_≡_};
+ghost use Rattle.rules.specs.Calls.{fresh};
+
+// The store of pattern pieces, by its capacity.
+pub struct Store {
+    pub n: usize,
+}
+
+impl Store {
+    // The largest capacity.
+    pub const MOST: usize = 1024;
+
+    // The links of a piece.
+    pub const LINKS: usize = 4;
+
+    // The most holds of a piece.
+    pub const HOLDS: u16 = 1000;
+
+    // The most bytes of a trace lent in memory.
+    pub const TRACE: usize = 65536;
+
+    // The mark for none.
+    pub const NONE: u16 = 65535;
+
+    // The answer of an accepted call that gives no value and frees nothing.
+    pub fn fresh() -> Answer
+        ensures { λ r. ⌜ r ≡ fresh ⌝ }
+    {
+        Answer::Done {
+            value: Store::NONE,
+            freed: 0,
+        }
+    }
+}
+
+// The refusals, in the order in which they are checked.
+pub enum Refusal {
+    // N outside 1 to 1,024, an area of the store not exactly its length, list or work too short.
+    Size,
+    // Tables not sound.
+    Unsound,
+    // P is N or more, K above 3, or T neither none nor below N.
+    Number,
+    // P or T is a free number.
+    Free,
+    // Set or bin of a frozen piece; acquire or release of a draft.
+    State,
+    // Acquire or freeze of a frozen piece with 1,000 holds.
+    Limit,
+    // Release of a piece with 0 holds.
+    NotHeld,
+    // Bin of a draft that another piece links to.
+    Linked,
+    // New with no free number.
+    Full,
+    // Lent trace over 65,536 bytes.
+    Long,
+    // Output of a lent trace longer than the room lent.
+    Room,
+}
+
+// The commands, in 01's order: the calls that a line of a trace can make.
+pub enum Command {
+    New,
+    Set { p: u16, k: u16, t: u16 },
+    Freeze(u16),
+    Acquire(u16),
+    Release(u16),
+    Bin(u16),
+    Look(u16),
+}
+
+// What a call answers, but for look and check.
+pub enum Answer {
+    // Accepted: its value, and the number freed.
+    Done { value: u16, freed: u16 },
+    Refused(Refusal),
+}
+
+// What look answers.
+pub enum Seen {
+    // Accepted: state, leader, count of its group, holds.
+    Piece {
+        state: u8,
+        leader: u16,
+        count: u32,
+        holds: u16,
+    },
+    Unseen(Refusal),
+}
+
+// What check answers.
+pub enum Checked {
+    // The tables are sound.
+    Yes,
+    // They are not.
+    No,
+    Unchecked(Refusal),
+}
+
+// What a line of a trace says.
+pub enum Line {
+    Does(Command),
+    Bad,
+}

@@ -1,0 +1,7 @@
+pub mod Sums
+pub mod Tally
+pub mod Moves
+pub mod Exact
+pub mod Adding
+pub mod Finished
+pub mod Stores

@@ -1,0 +1,65 @@
+-- Sums and small tools: what changes where one term changes; a store by cases.
+use mathlib.Core.Path.{_≡_, refl, sym, ap, ap₂, _∙_, subst}
+use mathlib.Core.Logic.{_⊎_, inl, inr, ⊎-elim, _≢_}
+use mathlib.Core.Bool.{Bool, true, false, not}
+use mathlib.Core.List.{List, [], _∷_}
+use Prim.Native.Nat.{ℕ, zero, suc, _+_, _*_, _≤_, _<_, zero-le}
+use native.Mathlib.Nat.{le-refl, not-suc-le-zero, le-of-suc-le-suc}
+use native.Mathlib.Decide.{ℕ-discrete, decLt}
+use native.Mathlib.Omega.{arith}
+use lib.ListN.{getD, length, set}
+use lib.Seq.{getD-set-same, getD-set-other}
+use Rattle.rules.specs.Below.{sum}
+use Rattle.rules.specs.Tests.{onlyIf}
+use Rattle.laws.specs.Counts.{sum-most}
+
+pub dec-or : {A : Type 0} → Dec A → A ⊎ (A → ⊥)
+dec-or (yes a) = inl a
+dec-or (no f) = inr f
+
+pub eq-or : (i j : ℕ) → (i ≡ j) ⊎ (i ≡ j → ⊥)
+eq-or i j = dec-or (ℕ-discrete i j)
+
+pub lt-or : (i j : ℕ) → (i < j) ⊎ (j ≤ i)
+lt-or i j = ⊎-elim (λ h. inl h) (λ f. inr (omega (arith, f))) (dec-or (decLt i j))
+
+pub set-cases : (l : List ℕ) (i a j d : ℕ) → i < length l → ((j ≡ i) × (getD (set l i a) j d ≡ a)) ⊎ ((j ≡ i → ⊥) × (getD (set l i a) j d ≡ getD l j d))
+set-cases l i a j d h =
+    ⊎-elim
+    (λ e. inl (e, ap (λ (x : ℕ). getD (set l i a) x d) e ∙ getD-set-same l i a d h))
+    (λ f. inr (f, getD-set-other l i j a d f))
+    (eq-or j i)
+
+pub getD-any : (l : List ℕ) (i d e : ℕ) → i < length l → getD l i d ≡ getD l i e
+getD-any [] i d e h = absurd (not-suc-le-zero h)
+getD-any (x ∷ l) zero d e h = refl
+getD-any (x ∷ l) (suc i) d e h = getD-any l i d e (le-of-suc-le-suc h)
+
+pub sum-cong : (f g : ℕ → ℕ) (k : ℕ) → ((p : ℕ) → p < k → f p ≡ g p) → sum f k ≡ sum g k
+unfolding sum
+sum-cong f g zero h = refl
+sum-cong f g (suc k) h = ap₂ (λ (x y : ℕ). x + y) (sum-cong f g k (λ p l. h p (omega arith))) (h k (le-refl (suc k)))
+
+-- at most 1 each, and one of them 0: less than k
+pub sum-room : (f : ℕ → ℕ) (k q : ℕ) → q < k → ((p : ℕ) → p < k → f p ≤ 1) → f q ≡ 0 → sum f k < k
+unfolding sum
+sum-room f zero q l h e = absurd (not-suc-le-zero l)
+sum-room f (suc k) q l h e =
+    ⊎-elim
+    (λ x. omega (arith, ap f x, sum-most f 1 k (λ p l. h p (omega arith))))
+    (λ x. omega (arith, sum-room f k q (omega arith) (λ p l. h p (omega arith)) e, h k (le-refl (suc k))))
+    (eq-or k q)
+
+pub onlyIf-true : (c : Bool) (x : ℕ) → c ≡ true → onlyIf c x ≡ x
+onlyIf-true c x e = ap (λ (b : Bool). onlyIf b x) e
+
+pub onlyIf-false : (c : Bool) (x : ℕ) → c ≡ false → onlyIf c x ≡ 0
+onlyIf-false c x e = ap (λ (b : Bool). onlyIf b x) e
+
+pub onlyIf-pos : (c : Bool) (x : ℕ) → 0 < onlyIf c x → (c ≡ true) × (0 < x)
+onlyIf-pos true x h = (refl, h)
+onlyIf-pos false x h = absurd (not-suc-le-zero h)
+
+pub onlyIf-most : (c : Bool) (x m : ℕ) → x ≤ m → onlyIf c x ≤ m
+onlyIf-most true x m h = h
+onlyIf-most false x m h = zero-le

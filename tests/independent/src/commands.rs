@@ -1,0 +1,141 @@
+//! The commands on the pieces of a sound store, with refusals 3 to 9 in their order.
+
+use crate::pieces::Pieces;
+use crate::tables::{Refusal, DRAFT, FREE, FROZEN, HOLDS, LINKS, NONE};
+
+/// What an accepted command gives: its value and the numbers freed, ascending.
+#[derive(Clone, Debug, PartialEq, Eq)]
+pub struct Accepted {
+    pub value: u16,
+    pub freed: Vec<u16>,
+}
+
+/// What an accepted look gives.
+#[derive(Clone, Copy, Debug, PartialEq, Eq)]
+pub struct Seen {
+    pub state: u8,
+    pub leader: u16,
+    pub count: u32,
+    pub holds: u16,
+}
+
+/// Accepted, with no value and nothing freed.
+fn nothing() -> Result<Accepted, Refusal> {
+    Ok(Accepted { value: NONE, freed: Vec::new() })
+}
+
+impl Pieces {
+    /// P as a live piece, or NUMBER or FREE.
+    fn live(&self, p: u16) -> Result<usize, Refusal> {
+        match self.states.get(usize::from(p)) {
+            None => Err(Refusal::Number),
+            Some(&FREE) => Err(Refusal::Free),
+            Some(_) => Ok(usize::from(p)),
+        }
+    }
+
+    /// P as a live piece in the given state, or NUMBER, FREE or STATE.
+    fn live_in(&self, state: u8, p: u16) -> Result<usize, Refusal> {
+        let p = self.live(p)?;
+        if self.states[p] == state {
+            Ok(p)
+        } else {
+            Err(Refusal::State)
+        }
+    }
+
+    /// P becomes free.
+    fn clear(&mut self, p: usize) {
+        self.states[p] = FREE;
+        self.links[p] = [NONE; LINKS];
+        self.holds[p] = 0;
+    }
+
+    /// Every frozen piece no longer kept becomes free; these are the freed.
+    fn settle(&mut self) -> Result<Accepted, Refusal> {
+        let kept = self.kept();
+        let freed: Vec<usize> = self.in_state(FROZEN).filter(|&p| !kept[p]).collect();
+        freed.iter().for_each(|&p| self.clear(p));
+        Ok(Accepted { value: NONE, freed: freed.iter().map(|&p| p as u16).collect() })
+    }
+
+    /// The lowest free number becomes a draft with four empty links.
+    pub fn new_draft(&mut self) -> Result<Accepted, Refusal> {
+        let p = self.in_state(FREE).next().ok_or(Refusal::Full)?;
+        self.states[p] = DRAFT;
+        Ok(Accepted { value: p as u16, freed: Vec::new() })
+    }
+
+    /// Draft P's link K becomes T.
+    pub fn set(&mut self, p: u16, k: u16, t: u16) -> Result<Accepted, Refusal> {
+        let n = self.n();
+        let named = |q: u16| usize::from(q) < n;
+        if !named(p) || usize::from(k) >= LINKS || !(t == NONE || named(t)) {
+            return Err(Refusal::Number);
+        }
+        self.live(p)?;
+        if t != NONE {
+            self.live(t)?;
+        }
+        let p = self.live_in(DRAFT, p)?;
+        self.links[p][usize::from(k)] = t;
+        self.settle()
+    }
+
+    /// P and every draft it reaches become frozen; P gets one hold.
+    pub fn freeze(&mut self, p: u16) -> Result<Accepted, Refusal> {
+        let start = self.live(p)?;
+        if self.states[start] == FROZEN {
+            return self.acquire(p);
+        }
+        for (q, reached) in self.reached(vec![start]).into_iter().enumerate() {
+            if reached {
+                self.states[q] = FROZEN;
+            }
+        }
+        self.acquire(p)
+    }
+
+    /// One hold more on frozen P.
+    pub fn acquire(&mut self, p: u16) -> Result<Accepted, Refusal> {
+        let p = self.live_in(FROZEN, p)?;
+        if self.holds[p] == HOLDS {
+            return Err(Refusal::Limit);
+        }
+        self.holds[p] += 1;
+        nothing()
+    }
+
+    /// One hold less on frozen P.
+    pub fn release(&mut self, p: u16) -> Result<Accepted, Refusal> {
+        let p = self.live_in(FROZEN, p)?;
+        if self.holds[p] == 0 {
+            return Err(Refusal::NotHeld);
+        }
+        self.holds[p] -= 1;
+        self.settle()
+    }
+
+    /// Draft P becomes free.
+    pub fn bin(&mut self, p: u16) -> Result<Accepted, Refusal> {
+        let p = self.live_in(DRAFT, p)?;
+        let another = (0..self.n()).filter(|&q| q != p);
+        if another.into_iter().any(|q| self.named(q).any(|named| named == p)) {
+            return Err(Refusal::Linked);
+        }
+        self.clear(p);
+        self.settle()
+    }
+
+    /// State, leader, count of its group, holds of P.
+    pub fn look(&self, p: u16) -> Result<Seen, Refusal> {
+        let p = self.live(p)?;
+        if self.states[p] == DRAFT {
+            return Ok(Seen { state: DRAFT, leader: NONE, count: 0, holds: 0 });
+        }
+        let namers = self.namers();
+        let group = self.group(p, &namers);
+        let (leader, count) = (self.leader(&group), self.count(&group, &namers));
+        Ok(Seen { state: FROZEN, leader, count, holds: self.holds[p] })
+    }
+}
