@@ -1,17 +1,39 @@
 # Acornskiff: what to run. `make help` lists it.
-SHELL := /bin/bash
 SECONDS ?= 60
-TESTS := $(CURDIR)/target/tests
-CARGO := CARGO_TARGET_DIR=$(TESTS) cargo
 
-.PHONY: help test clean
+.PHONY: help demo test example compare bench clean
 
 help:
-	@echo "make test   prove every crate, try every wrong version, run every comparison"
-	@echo "make clean  remove what was built"
+	@echo "make demo     prove and build the trace program, and run it on the worked trace"
+	@echo "make test     prove every crate, try every wrong version, run every comparison"
+	@echo "make example  build the C library and run the drawing program over it"
+	@echo "make compare  compare random traces with the independent program for SECONDS=$(SECONDS)"
+	@echo "make bench    time the program and the C calls against plain C"
+	@echo "make clean    remove what was built"
+
+demo:
+	@echo "proving and building the trace program: a few minutes the first time"
+	@rt check trace > target-demo.log 2>&1 || { tail -n 20 target-demo.log; rm -f target-demo.log; exit 1; }
+	@tail -n 1 target-demo.log; rm -f target-demo.log
+	@echo "the worked trace:"
+	@tests/x86 target/bin/trace < crates/trace/stdin
 
 test:
 	@.ci/test
+
+example:
+	@rt staticlib pieces | tail -n 1
+	@examples/run
+
+compare:
+	@rt check trace | tail -n 1
+	@cd tests/compare && CARGO_TARGET_DIR=$(CURDIR)/target/tests cargo build --release --offline --quiet -j1
+	@cd tests && $(CURDIR)/target/tests/release/compare --program "./x86 $(CURDIR)/target/bin/trace" --seconds $(SECONDS)
+
+bench:
+	@rt check trace | tail -n 1
+	@rt staticlib pieces | tail -n 1
+	@bench/run target/bin/trace target/staticlib
 
 clean:
 	rm -rf target

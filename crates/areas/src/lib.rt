@@ -44,7 +44,14 @@ pub fn fill_u32(a: &mut [u32], k: usize, v: u32)
 }
 
 // Whether n is a capacity and each area of the store has exactly its length.
-pub fn sized(n: usize, states: &[u8], links: &[u16], leaders: &[u16], holds: &[u16], counts: &[u32]) -> bool
+pub fn sized(
+    n: usize,
+    states: &[u8],
+    links: &[u16],
+    leaders: &[u16],
+    holds: &[u16],
+    counts: &[u32],
+) -> bool
     ensures { λ r. ⌜ r ≡ isSized (storeOf n (now (states .entry)) (now (links .entry)) (now (leaders .entry)) (now (holds .entry)) (now (counts .entry))) ⌝ }
 {
     if n < 1 {

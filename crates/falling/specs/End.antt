@@ -1,34 +1,34 @@
 -- The end of the letting go: the marked pieces are exactly the frozen pieces that are not kept.
 use mathlib.Core.Path.{_≡_, refl, sym, ap, ap₂, _∙_, subst}
 use mathlib.Core.Logic.{_⊎_, inl, inr, ⊎-elim}
-use mathlib.Core.Bool.{Bool, true, false, not}
+use mathlib.Core.Bool.{not}
 use mathlib.Core.List.{List}
-use Prim.Native.Nat.{ℕ, zero, suc, _+_, _-_, _*_, _/_, _%_, _≤_, _<_, zero-le}
+use Prim.Native.Nat.{ℕ, zero, suc, _+_, _-_, _*_, _/_, _%_, _<_}
 use native.Mathlib.Nat.{le-refl, not-suc-le-zero}
 use native.Mathlib.Omega.{arith}
-use lib.Dec.{T, T-not, not-T, eqb, ltb}
-use lib.ListN.{getD, length, set}
+use lib.Dec.{T, T-not, not-T, eqb}
+use lib.ListN.{getD, length}
 use lib.Seq.{ext-getD}
 use borrow.Author.Tests.{eqb-true}
-use Rattle.rules.specs.Tests.{_&_, pick, onlyIf}
+use Rattle.rules.specs.Tests.{pick}
 use Rattle.laws.specs.Tests.{and-both, and-left, and-right}
 use Rattle.rules.specs.Limits.{none}
 use Rattle.rules.specs.Below.{sum, table}
 use Rattle.laws.specs.Below.{T-dec, pick-true, pick-false, getD-table, length-table}
-use Rattle.rules.specs.Reach.{Reach, here, chain, Link}
+use Rattle.rules.specs.Reach.{here, chain, Link}
 use Rattle.rules.specs.Tables.{Base, state, isFrozen, linkAt, holdsOf, isKept}
-use Rattle.rules.specs.Words.{Draft, Frozen, Live, Reaches, Group, Leader, Root, Kept, Well, wfree, wdraft, wfrozen}
+use Rattle.rules.specs.Words.{Frozen, Reaches, Group, Root, Kept, Well, wfree, wdraft, wfrozen}
 use Rattle.laws.specs.Words.{trans, →isFrozen, isFrozen→, isKept→, →isKept}
 use Rattle.laws.specs.Counts.{reachers, fewer, sum-pos}
 use Rattle.rules.specs.Commands.{freeAll, gone}
 use Rattle.laws.specs.Commands.{frozen-of}
 use Rattle.tallies.specs.Sums.{eq-or, lt-or, onlyIf-pos}
-use Rattle.tallies.specs.Tally.{_!_, label, cross, held, placed, tally, CountsMatch}
+use Rattle.tallies.specs.Tally.{_!_, label, cross, held, placed, tally}
 use Rattle.tallies.specs.Moves.{cross-on, cross-pos, link-counts, hold-counts}
-use Rattle.tallies.specs.Exact.{Exact, label-past, label-frozen, label-below, label-own, group-of, label-of}
-use Rattle.falling.specs.Queue.{Marked, Erased, Core, Inv, spot, isMarked}
+use Rattle.tallies.specs.Exact.{Exact, label-frozen, label-below, label-own, group-of, label-of}
+use Rattle.falling.specs.Queue.{Marked, Erased, Inv}
 
-module _ (e : Base) (leaders : List ℕ) (x : Exact e leaders) (ws : (p : ℕ) → p < e .n → Well e p) (states links counts queue : List ℕ) (tail : ℕ) (v : Inv e leaders states links counts queue (4 * tail) tail) where
+module _ (e : Base) (leaders : List ℕ) (x : Exact e leaders) (wells : (p : ℕ) → p < e .n → Well e p) (states links counts queue : List ℕ) (tail : ℕ) (v : Inv e leaders states links counts queue (4 * tail) tail) where
   abbrev Out : ℕ → Type 0
   Out p = Marked (e .n) leaders states p
 
@@ -54,16 +54,16 @@ module _ (e : Base) (leaders : List ℕ) (x : Exact e leaders) (ws : (p : ℕ) �
   pub link-frozen : {a b : ℕ} → Frozen e a → Link (e .n) (linkAt e) a b → Frozen e b
   link-frozen {a} {b} f l =
       ⊎-elim (λ y. absurd (let s = l .names in let z = l .to in let m = x .most in omega arith)) (λ y. subst (Frozen e) (l .names) y)
-      (frozen-of e a (ws a (f .below)) (f .is) .links (l .place) (l .inside))
+      (frozen-of e a (wells a (f .below)) (f .is) .links (l .place) (l .inside))
 
   -- a marked piece's group is marked
   along : {a p : ℕ} → Out a → Reaches e a p → Reaches e p a → Out p
   along g here r = g
   along {a} {p} g (chain {q = b} l r) back =
       let f = frozen a g in
-      let er = erased a (l .place) g (l .inside) in
+      let gap = erased a (l .place) g (l .inside) in
       let same : label leaders b ≡ label leaders a = label-of e leaders x a b f (record { frozen = link-frozen f l; there = chain l here; back = trans r back }) in
-      let gb : Out b = subst Out (link-is l) (er .inner (ap (label leaders) (link-is l) ∙ same ∙ ap (label leaders) (sym (quarter a (l .place) (l .inside))))) in
+      let gb : Out b = subst Out (link-is l) (gap .inner (ap (label leaders) (link-is l) ∙ same ∙ ap (label leaders) (sym (quarter a (l .place) (l .inside))))) in
       along gb r (trans back (chain l here))
 
   pub whole : (p r : ℕ) → Out p → label leaders r ≡ label leaders p → Out r
@@ -83,8 +83,8 @@ module _ (e : Base) (leaders : List ℕ) (x : Exact e leaders) (ws : (p : ℕ) �
       ⊎-elim
       (λ same.
       let own : Out (i / 4) = whole t (i / 4) g same in
-      let er : Erased e leaders states links i = subst (Erased e leaders states links) (omega arith) (erased (i / 4) (i % 4) own (omega arith)) in
-      let z = er .empty in
+      let gap : Erased e leaders states links i = subst (Erased e leaders states links) (omega arith) (erased (i / 4) (i % 4) own (omega arith)) in
+      let z = gap .empty in
       let b = g .below in
       omega arith)
       (λ other. omega (arith, link-counts (e .n) links (e .holds) leaders i (label leaders t) h, cross-on leaders (label leaders t) i t refl other))
@@ -99,7 +99,7 @@ module _ (e : Base) (leaders : List ℕ) (x : Exact e leaders) (ws : (p : ℕ) �
       let i : ℕ = 4 * a + l .place in
       ⊎-elim
       (λ same. no-links i (omega arith) (subst Out (sym (same ∙ link-is l)) g))
-      (λ er. f (subst Out (quarter a (l .place) k) (er .owner)))
+      (λ gap. f (subst Out (quarter a (l .place) k) (gap .owner)))
       (v .core .places i (omega arith))
 
   not-along : {a b : ℕ} → (Out a → ⊥) → Reaches e a b → Out b → ⊥
@@ -134,10 +134,10 @@ module _ (e : Base) (leaders : List ℕ) (x : Exact e leaders) (ws : (p : ℕ) �
       let gt : Group e p t = group-of e leaders x p t f (w .0) in
       let tb = gt .frozen .below in
       let m = x .most in
-      let same : e .links ! i ≡ t = ⊎-elim (λ s. sym s) (λ er. absurd (let z = er .empty in omega arith)) (v .core .places i h) in
+      let same : e .links ! i ≡ t = ⊎-elim (λ s. sym s) (λ gap. absurd (let z = gap .empty in omega arith)) (v .core .places i h) in
       let split : 4 * (i / 4) + i % 4 ≡ i = omega arith in
       byLink (i / 4) t
-      (λ g. absurd (let er : Erased e leaders states links i = subst (Erased e leaders states links) split (erased (i / 4) (i % 4) g (omega arith)) in let z = er .empty in omega arith))
+      (λ g. absurd (let gap : Erased e leaders states links i = subst (Erased e leaders states links) split (erased (i / 4) (i % 4) g (omega arith)) in let z = gap .empty in omega arith))
       (omega arith) (w .1) gt
       (record { from = omega arith; to = tb; place = i % 4; inside = omega arith; names = ap (λ (u : ℕ). e .links ! u) split ∙ same })
 
@@ -151,6 +151,7 @@ module _ (e : Base) (leaders : List ℕ) (x : Exact e leaders) (ws : (p : ℕ) �
     where
       hold-source : (r : ℕ) → 0 < held (e .holds) leaders (label leaders p) r → Source p
       hold-source r h = unfold held holdsOf in (let w = onlyIf-pos (eqb (label leaders r) (label leaders p)) (e .holds ! r) h in byHold r (group-of e leaders x p r f (eqb-true _ _ (w .0))) (w .1))
+
       placed-is : (i : ℕ) → 0 < placed links leaders (label leaders p) i → 0 < cross leaders (label leaders p) i (links ! i)
       placed-is i h = unfold placed in h
 
@@ -171,10 +172,11 @@ module _ (e : Base) (leaders : List ℕ) (x : Exact e leaders) (ws : (p : ℕ) �
     where
       go : ((r : ℕ) → Still r → reachers e r < m → Kept e r) → Source p → Kept e p
       go ih (byHold r g c) = record { root = r; is = inr (g .frozen, c); reached = g .back }
-      go ih (byLink r t ng below other g l) = by-well (ws r below)
+      go ih (byLink r t ng below other g l) = by-well (wells r below)
         where
           rp : Reaches e r p
           rp = chain l (g .back)
+
           by-well : Well e r → Kept e p
           by-well (wfree w) = absurd (let a = w .links (l .place) (l .inside) in let b = l .names in let c = l .to in let m = x .most in omega arith)
           by-well (wdraft w) = record { root = r; is = inl (record { below = below; is = w .is }); reached = rp }
@@ -221,16 +223,16 @@ module _ (e : Base) (leaders : List ℕ) (x : Exact e leaders) (ws : (p : ℕ) �
       (λ i h. let l : i < 4 * e .n = subst (λ (u : ℕ). i < u) (v .core .sizes .links-n) h in
       ⊎-elim
       (λ t.
-      let er : Erased e leaders states links i = subst (Erased e leaders states links) (omega arith) (erased (i / 4) (i % 4) (test-marked (i / 4) (omega arith) t) (omega arith)) in
-      er .empty ∙ sym (pick-true (gone e (i / 4)) none (e .links ! i) t))
-      (λ t. ⊎-elim (λ s. s) (λ er. absurd (T-not (gone e (i / 4)) t (marked-test (i / 4) (er .owner)))) (v .core .places i l) ∙ sym (pick-false (gone e (i / 4)) none (e .links ! i) t))
+      let gap : Erased e leaders states links i = subst (Erased e leaders states links) (omega arith) (erased (i / 4) (i % 4) (test-marked (i / 4) (omega arith) t) (omega arith)) in
+      gap .empty ∙ sym (pick-true (gone e (i / 4)) none (e .links ! i) t))
+      (λ t. ⊎-elim (λ s. s) (λ gap. absurd (T-not (gone e (i / 4)) t (marked-test (i / 4) (gap .owner)))) (v .core .places i l) ∙ sym (pick-false (gone e (i / 4)) none (e .links ! i) t))
       (T-dec (gone e (i / 4))) ∙ sym (getD-table (λ j. pick (gone e (j / 4)) none (getD (e .links) j 0)) (4 * e .n) i 0 l))
 
   pub holds-are : length (e .holds) ≡ e .n → e .holds ≡ freeAll e (gone e) .holds
   unfolding freeAll holdsOf
-  holds-are hn =
-      ext-getD 0 (e .holds) (table (λ p. pick (gone e p) 0 (getD (e .holds) p 0)) (e .n)) (hn ∙ sym (length-table _ (e .n)))
-      (λ p h. let l : p < e .n = subst (λ (u : ℕ). p < u) hn h in
+  holds-are holds-n =
+      ext-getD 0 (e .holds) (table (λ p. pick (gone e p) 0 (getD (e .holds) p 0)) (e .n)) (holds-n ∙ sym (length-table _ (e .n)))
+      (λ p h. let l : p < e .n = subst (λ (u : ℕ). p < u) holds-n h in
       ⊎-elim
       (λ t. no-holds p (test-marked p l t) ∙ sym (pick-true (gone e p) 0 (getD (e .holds) p 0) t))
       (λ t. sym (pick-false (gone e p) 0 (getD (e .holds) p 0) t))

@@ -1,25 +1,25 @@
 -- The start of a letting go: the leaders of the groups that a command made fall are put into the queue, one by one.
 use mathlib.Core.Path.{_≡_, refl, sym, ap, _∙_, subst}
-use mathlib.Core.Logic.{_⊎_, inl, inr, ⊎-elim}
-use mathlib.Core.Bool.{Bool, true, false}
+use mathlib.Core.Logic.{_⊎_, inl, ⊎-elim}
+use mathlib.Core.Bool.{true}
 use mathlib.Core.List.{List, [], _∷_}
-use Prim.Native.Nat.{ℕ, _+_, _*_, _≤_, _<_}
+use Prim.Native.Nat.{ℕ, _+_, _≤_, _<_}
 use native.Mathlib.Omega.{arith}
-use lib.ListN.{getD, length, set, length-set}
+use lib.ListN.{length, set}
 use lib.Seq.{getD-set-same, getD-set-other}
 use borrow.Author.Tests.{eq-eqb, ne-eqb, le-ltb}
 use Rattle.rules.specs.Limits.{none}
 use Rattle.rules.specs.Tests.{onlyIf}
 use Rattle.rules.specs.Below.{sum}
 use Rattle.rules.specs.Tables.{Base, state}
-use Rattle.rules.specs.Words.{Frozen}
 use Rattle.rules.specs.Lists.{Among}
 use Rattle.laws.specs.Below.{among-nil, among-cons}
 use Rattle.laws.specs.Counts.{sum-pos}
 use Rattle.tallies.specs.Sums.{eq-or, lt-or, getD-any, onlyIf-pos}
 use Rattle.tallies.specs.Tally.{_!_, label, CountsMatch}
 use Rattle.tallies.specs.Exact.{label-past, label-frozen, label-own}
-use Rattle.falling.specs.Queue.{Marked, Sizes, Core, Over, Inv, isMarked, mark, room}
+use Rattle.falling.specs.Queue.{Marked, Sizes, Core, Inv, isMarked}
+use Rattle.falling.specs.Marking.{mark, room}
 use Rattle.falling.specs.Steps.{base, Known}
 
 -- the tables match the base e, but groups may have no count
@@ -71,9 +71,9 @@ module _ (e : Base) (leaders counts queue : List ℕ) (b : Begin e leaders count
       places = λ i _. inl refl;
       matches = b .matches;
       zeros = λ p g. absurd (none-marked p g);
-      led = λ p g. absurd (none-marked p g)
+      led = λ p g. absurd (none-marked p g);
     };
-    over = o
+    over = o;
   }
 
 -- ---- one piece t whose group may have fallen
@@ -90,7 +90,7 @@ module _ (e : Base) (leaders states counts queue : List ℕ) (tail t : ℕ) (xs 
         ⊎-elim
         (λ x. g L h x nz)
         (λ d. f .over L h own nz (λ y a s. ⊎-elim (λ x. d (ap (label leaders) (sym x) ∙ s)) (λ b. off y b s) (among-cons a)))
-        (eq-or (label leaders t) L)
+        (eq-or (label leaders t) L);
   }
 
   pub fall-past : e .n ≤ t → Falling e leaders states counts queue tail xs
@@ -135,11 +135,12 @@ module _ (e : Base) (leaders states counts queue : List ℕ) (tail t : ℕ) (xs 
           over = λ L h own-L nz off.
               let d : L ≡ l → ⊥ = λ x. nz (ap (λ (y : ℕ). set states l 0 ! y) x ∙ getD-set-same states l 0 0 (l-in .1)) in
               f .over L h own-L (λ y. nz (getD-set-other states l L 0 0 d ∙ y))
-              (λ y a s. ⊎-elim (λ x. d (sym s ∙ ap (label leaders) x ∙ label-t)) (λ b. off y b s) (among-cons a))
+              (λ y a s. ⊎-elim (λ x. d (sym s ∙ ap (label leaders) x ∙ label-t)) (λ b. off y b s) (among-cons a));
         }
 
 -- ---- what the function requires and ensures
 
+-- t, whose group may have fallen, is next
 pub record Tipping (n : ℕ) (states leaders counts queue : List ℕ) (t tail : ℕ) : Type 0 where
   pub states₀ : List ℕ
   pub links : List ℕ
@@ -148,6 +149,7 @@ pub record Tipping (n : ℕ) (states leaders counts queue : List ℕ) (t tail : 
   pub known : Known (base n states₀ links holds) leaders
   pub falling : Falling (base n states₀ links holds) leaders states counts queue tail (t ∷ xs)
 
+-- t is done with: its leader is marked, or has a count
 pub record Tipped (n : ℕ) (states leaders counts queue : List ℕ) (t tail : ℕ) (states′ queue′ : List ℕ) (tail′ : ℕ) : Type 0 where
   pub falling : (states₀ links holds xs : List ℕ) → Known (base n states₀ links holds) leaders
       → Falling (base n states₀ links holds) leaders states counts queue tail (t ∷ xs) → Falling (base n states₀ links holds) leaders states′ counts queue′ tail′ xs
@@ -179,7 +181,7 @@ module _ (n : ℕ) (states leaders counts queue : List ℕ) (t tail : ℕ) where
       tipped-mark z u = record {
         falling = λ s l o xs k f. fall-mark (base n s l o) leaders states counts queue tail t xs k f t-n l-n z u;
         grows = omega arith;
-        rest = λ i h. getD-set-other queue tail i (leaders ! t) 0 (λ x. omega arith)
+        rest = λ i h. getD-set-other queue tail i (leaders ! t) 0 (λ x. omega arith);
       }
 
       -- there is room in the queue
@@ -194,5 +196,5 @@ fallen e leaders states counts queue tail f = record {
   core = f .core;
   over = λ L u own nz _. f .over L u own nz (λ x a. absurd (among-nil a));
   past = λ j u. absurd (omega arith);
-  place = omega arith
+  place = omega arith;
 }

@@ -1,32 +1,27 @@
 -- The tables after the letting go are the finished store of document 01: leaders and counts too.
 use mathlib.Core.Path.{_≡_, refl, sym, ap, ap₂, _∙_, subst}
-use mathlib.Core.Logic.{_⊎_, inl, inr, ⊎-elim}
+use mathlib.Core.Logic.{_⊎_, ⊎-elim}
 use mathlib.Core.Bool.{Bool, true, false, not}
 use mathlib.Core.List.{List}
-use Prim.Native.Nat.{ℕ, zero, suc, _+_, _-_, _*_, _/_, _%_, _≤_, _<_, zero-le}
+use Prim.Native.Nat.{ℕ, _+_, _-_, _*_, _/_, _%_, _<_}
 use native.Mathlib.Omega.{arith}
-use lib.Dec.{T, T-not, not-T, eqb, ltb}
-use lib.ListN.{getD, length, set}
-use lib.Seq.{ext-getD}
-use borrow.Author.Tests.{eqb-true, ne-eqb}
-use Rattle.rules.specs.Tests.{_&_, pick, onlyIf}
+use lib.Dec.{T, T-not, not-T, eqb}
+use lib.ListN.{length}
+use borrow.Author.Tests.{ne-eqb}
+use Rattle.rules.specs.Tests.{_&_, onlyIf}
 use Rattle.rules.specs.Limits.{none}
-use Rattle.rules.specs.Below.{sum, table}
-use Rattle.laws.specs.Below.{T-dec, pick-true, pick-false, getD-table, length-table}
-use Rattle.rules.specs.Reach.{Reach, here, chain, Link}
-use Rattle.rules.specs.Tables.{Base, Store, state, isFrozen, linkAt, holdsOf, leaderOf, leaderEntry, countEntry, finish}
-use Rattle.rules.specs.Words.{Draft, Frozen, Reaches, Group, Leader, Well}
-use Rattle.laws.specs.Words.{isFrozen→, leaderOf-is, leader-one}
-use Rattle.laws.specs.Sound.{Good, leaderEntry-frozen, leaderEntry-other}
+use Rattle.laws.specs.Below.{T-dec}
+use Rattle.rules.specs.Reach.{Link}
+use Rattle.rules.specs.Tables.{Base, linkAt, holdsOf, finish}
+use Rattle.rules.specs.Words.{Frozen, Reaches, Leader, Well}
 use Rattle.rules.specs.Commands.{freeAll, gone}
 use Rattle.laws.specs.Settle.{carry, link-kept, state-kept, freed-well, frozen-kept, settled-good}
-use Rattle.tallies.specs.Sums.{eq-or, lt-or, getD-any, sum-cong}
-use Rattle.tallies.specs.Tally.{_!_, label, cross, held, placed, tally, CountsMatch}
-use Rattle.tallies.specs.Moves.{cross-off}
-use Rattle.tallies.specs.Exact.{Exact, label-past, label-frozen, label-below, label-of, group-of, tally-entry}
+use Rattle.tallies.specs.Sums.{lt-or, getD-any, sum-cong}
+use Rattle.tallies.specs.Tally.{_!_, label, cross, held, placed, tally}
+use Rattle.tallies.specs.Exact.{Exact, label-past, label-of}
 use Rattle.tallies.specs.Finished.{leaders-finished, counts-finished}
-use Rattle.falling.specs.Queue.{Marked, Erased, Core, Inv, spot, isMarked}
-use Rattle.falling.specs.End.{erased, whole, no-holds, no-links, not-next, link-frozen, marked-test, test-marked, states-are, links-are, holds-are, state-still}
+use Rattle.falling.specs.Queue.{Marked, Erased, Inv}
+use Rattle.falling.specs.End.{erased, whole, no-holds, no-links, not-next, marked-test, test-marked, links-are, holds-are}
 
 -- the labels without those of the marked pieces
 pub record Cleared (n : ℕ) (leaders states leaders′ : List ℕ) : Type 0 where
@@ -34,7 +29,7 @@ pub record Cleared (n : ℕ) (leaders states leaders′ : List ℕ) : Type 0 whe
   pub off : (p : ℕ) → p < n → Marked n leaders states p → leaders′ ! p ≡ none
   pub on : (p : ℕ) → p < n → (Marked n leaders states p → ⊥) → leaders′ ! p ≡ leaders ! p
 
-module _ (e : Base) (leaders : List ℕ) (x : Exact e leaders) (ws : (p : ℕ) → p < e .n → Well e p) (states links counts queue : List ℕ) (tail : ℕ) (v : Inv e leaders states links counts queue (4 * tail) tail) (leaders′ : List ℕ) (cl : Cleared (e .n) leaders states leaders′) where
+module _ (e : Base) (leaders : List ℕ) (x : Exact e leaders) (wells : (p : ℕ) → p < e .n → Well e p) (states links counts queue : List ℕ) (tail : ℕ) (v : Inv e leaders states links counts queue (4 * tail) tail) (leaders′ : List ℕ) (clear : Cleared (e .n) leaders states leaders′) where
   abbrev Out : ℕ → Type 0
   Out p = Marked (e .n) leaders states p
 
@@ -46,10 +41,10 @@ module _ (e : Base) (leaders : List ℕ) (x : Exact e leaders) (ws : (p : ℕ) �
   b-n = refl
 
   not-test : (p : ℕ) → p < e .n → (Out p → ⊥) → T (not (gone e p))
-  not-test p h f = not-T (gone e p) (λ t. f (test-marked e leaders x ws states links counts queue tail v p h t))
+  not-test p h f = not-T (gone e p) (λ t. f (test-marked e leaders x wells states links counts queue tail v p h t))
 
   test-not : (p : ℕ) → T (not (gone e p)) → Out p → ⊥
-  test-not p t g = T-not (gone e p) t (marked-test e leaders x ws states links counts queue tail v p g)
+  test-not p t g = T-not (gone e p) t (marked-test e leaders x wells states links counts queue tail v p g)
 
   frozen-back : (p : ℕ) → Frozen b p → Frozen e p × (Out p → ⊥)
   unfolding freeAll
@@ -66,14 +61,14 @@ module _ (e : Base) (leaders : List ℕ) (x : Exact e leaders) (ws : (p : ℕ) �
   unfolding freeAll
   link-on p r n l = (
     record { from = l .from; to = l .to; place = l .place; inside = l .inside; names = link-kept e (gone e) p (l .place) (l .from) (l .inside) (not-test p (l .from) n) ∙ l .names },
-    not-next e leaders x ws states links counts queue tail v n l,
+    not-next e leaders x wells states links counts queue tail v n l,
   )
 
   link-back : (p r : ℕ) → (Out p → ⊥) → Link (b .n) (linkAt b) p r → Link (e .n) (linkAt e) p r × (Out r → ⊥)
   unfolding freeAll
   link-back p r n l =
       let k : Link (e .n) (linkAt e) p r = record { from = l .from; to = l .to; place = l .place; inside = l .inside; names = sym (link-kept e (gone e) p (l .place) (l .from) (l .inside) (not-test p (l .from) n)) ∙ l .names } in
-      (k, not-next e leaders x ws states links counts queue tail v n k)
+      (k, not-next e leaders x wells states links counts queue tail v n k)
 
   reach-on : {p r : ℕ} → (Out p → ⊥) → Reaches e p r → Reaches b p r
   reach-on n c = carry (λ p. Out p → ⊥) link-on n c
@@ -84,32 +79,32 @@ module _ (e : Base) (leaders : List ℕ) (x : Exact e leaders) (ws : (p : ℕ) �
   label-still : (p : ℕ) → (Out p → ⊥) → label leaders′ p ≡ label leaders p
   label-still p n =
       ⊎-elim
-      (λ h. getD-any leaders′ p none 0 (omega (arith, cl .size)) ∙ cl .on p h n ∙ getD-any leaders p 0 none (omega (arith, x .size)))
-      (λ h. label-past (e .n) leaders′ p (cl .size) h ∙ sym (label-past (e .n) leaders p (x .size) h))
+      (λ h. getD-any leaders′ p none 0 (omega (arith, clear .size)) ∙ clear .on p h n ∙ getD-any leaders p 0 none (omega (arith, x .size)))
+      (λ h. label-past (e .n) leaders′ p (clear .size) h ∙ sym (label-past (e .n) leaders p (x .size) h))
       (lt-or p (e .n))
 
   label-marked : (p : ℕ) → Out p → label leaders′ p ≡ none
-  label-marked p g = getD-any leaders′ p none 0 (omega (arith, cl .size, g .below)) ∙ cl .off p (g .below) g
+  label-marked p g = getD-any leaders′ p none 0 (omega (arith, clear .size, g .below)) ∙ clear .off p (g .below) g
 
   leader-on : (p l : ℕ) → Frozen e p → (Out p → ⊥) → Leader e p l → Leader b p l
   leader-on p l f n L =
-      let nl : Out l → ⊥ = λ g. n (whole e leaders x ws states links counts queue tail v l p g (sym (label-of e leaders x p l f (L .member)))) in
+      let nl : Out l → ⊥ = λ g. n (whole e leaders x wells states links counts queue tail v l p g (sym (label-of e leaders x p l f (L .member)))) in
       record {
         member = record { frozen = frozen-on l (L .member .frozen) nl; there = reach-on n (L .member .there); back = reach-on nl (L .member .back) };
-        lowest = λ r g. let fr = frozen-back r (g .frozen) in L .lowest r (record { frozen = fr .0; there = reach-back n (g .there); back = reach-back (fr .1) (g .back) })
+        lowest = λ r g. let fr = frozen-back r (g .frozen) in L .lowest r (record { frozen = fr .0; there = reach-back n (g .there); back = reach-back (fr .1) (g .back) });
       }
 
   exact : Exact b leaders′
   unfolding freeAll
   exact = record {
-    size = cl .size;
+    size = clear .size;
     most = x .most;
     leads = λ p f. let r = frozen-back p f in subst (Leader b p) (sym (label-still p (r .1))) (leader-on p (label leaders p) (r .0) (r .1) (x .leads p (r .0)));
     others = λ p h f.
         ⊎-elim
-        (λ t. label-marked p (test-marked e leaders x ws states links counts queue tail v p h t))
+        (λ t. label-marked p (test-marked e leaders x wells states links counts queue tail v p h t))
         (λ t. label-still p (test-not p t) ∙ x .others p h (λ s. f (state-kept e (gone e) p h t ∙ s)))
-        (T-dec (gone e p))
+        (T-dec (gone e p));
   }
 
   -- the counts by the labels left are the counts by the labels before
@@ -117,24 +112,25 @@ module _ (e : Base) (leaders : List ℕ) (x : Exact e leaders) (ws : (p : ℕ) �
   unfolding held
   held-same L p h =
       ⊎-elim
-      (λ t. let z : e .holds ! p ≡ 0 = no-hold p (test-marked e leaders x ws states links counts queue tail v p h t) in ap (onlyIf (eqb (label leaders′ p) L)) z ∙ zero-if (eqb (label leaders′ p) L) ∙ sym (ap (onlyIf (eqb (label leaders p) L)) z ∙ zero-if (eqb (label leaders p) L)))
+      (λ t. let z : e .holds ! p ≡ 0 = no-hold p (test-marked e leaders x wells states links counts queue tail v p h t) in ap (onlyIf (eqb (label leaders′ p) L)) z ∙ zero-if (eqb (label leaders′ p) L) ∙ sym (ap (onlyIf (eqb (label leaders p) L)) z ∙ zero-if (eqb (label leaders p) L)))
       (λ t. ap (λ (u : ℕ). onlyIf (eqb u L) (e .holds ! p)) (label-still p (test-not p t)))
       (T-dec (gone e p))
     where
       zero-if : (c : Bool) → onlyIf c 0 ≡ 0
       zero-if true = refl
       zero-if false = refl
+
       no-hold : (p : ℕ) → Out p → e .holds ! p ≡ 0
-      no-hold p g = unfold holdsOf in no-holds e leaders x ws states links counts queue tail v p g
+      no-hold p g = unfold holdsOf in no-holds e leaders x wells states links counts queue tail v p g
 
   placed-same : (L i : ℕ) → L < e .n → i < 4 * e .n → placed links leaders′ L i ≡ placed links leaders L i
   unfolding placed cross
   placed-same L i k h =
-      let t-still : label leaders′ (links ! i) ≡ label leaders (links ! i) = label-still (links ! i) (no-links e leaders x ws states links counts queue tail v i h) in
+      let t-still : label leaders′ (links ! i) ≡ label leaders (links ! i) = label-still (links ! i) (no-links e leaders x wells states links counts queue tail v i h) in
       ⊎-elim
       (λ t.
-      let er : Erased e leaders states links i = subst (Erased e leaders states links) (omega arith) (erased e leaders x ws states links counts queue tail v (i / 4) (i % 4) (test-marked e leaders x ws states links counts queue tail v (i / 4) (omega arith) t) (omega arith)) in
-      let off : eqb (label leaders (links ! i)) L ≡ false = ne-eqb (label leaders (links ! i)) L (λ y. absurd (let m = x .most in let z = er .empty in omega (arith, label-past (e .n) leaders (links ! i) (x .size) (omega arith)))) in
+      let gap : Erased e leaders states links i = subst (Erased e leaders states links) (omega arith) (erased e leaders x wells states links counts queue tail v (i / 4) (i % 4) (test-marked e leaders x wells states links counts queue tail v (i / 4) (omega arith) t) (omega arith)) in
+      let off : eqb (label leaders (links ! i)) L ≡ false = ne-eqb (label leaders (links ! i)) L (λ y. absurd (let m = x .most in let z = gap .empty in omega (arith, label-past (e .n) leaders (links ! i) (x .size) (omega arith)))) in
       ap (λ (u : ℕ). onlyIf (eqb u L & not (eqb (label leaders′ (i / 4)) L)) 1) t-still
       ∙ ap (λ (c : Bool). onlyIf (c & not (eqb (label leaders′ (i / 4)) L)) 1) off
       ∙ sym (ap (λ (c : Bool). onlyIf (c & not (eqb (label leaders (i / 4)) L)) 1) off))
@@ -147,10 +143,10 @@ module _ (e : Base) (leaders : List ℕ) (x : Exact e leaders) (ws : (p : ℕ) �
 
   pub counts-are : length (e .holds) ≡ e .n → counts ≡ finish b .counts
   unfolding freeAll
-  counts-are hn =
-      counts-finished b leaders′ exact (settled-good e (x .most) ws .wells) counts (v .core .sizes .counts-n)
+  counts-are holds-n =
+      counts-finished b leaders′ exact (settled-good e (x .most) wells .wells) counts (v .core .sizes .counts-n)
       (λ L k. v .core .matches L k ∙ sym (tally-same L k)
-      ∙ ap₂ (λ (l h : List ℕ). tally (e .n) l h leaders′ L) (links-are e leaders x ws states links counts queue tail v) (holds-are e leaders x ws states links counts queue tail v hn))
+      ∙ ap₂ (λ (l h : List ℕ). tally (e .n) l h leaders′ L) (links-are e leaders x wells states links counts queue tail v) (holds-are e leaders x wells states links counts queue tail v holds-n))
 
   pub leaders-are : leaders′ ≡ finish b .leaders
   leaders-are = leaders-finished b leaders′ exact

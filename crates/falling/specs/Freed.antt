@@ -1,14 +1,11 @@
 -- The whole of a letting go: the tables on return are those of document 01 after the freeing, and the list gives what was freed.
 use mathlib.Core.Path.{_≡_, refl, sym, ap, ap₂, _∙_, subst}
-use mathlib.Core.Logic.{⊎-elim}
 use mathlib.Core.List.{List, [], _∷_, _++_}
-use Prim.Native.Nat.{ℕ, zero, suc, _+_, _*_, _≤_, _<_}
+use Prim.Native.Nat.{ℕ, _+_, _*_, _≤_, _<_}
 use native.Mathlib.Omega.{arith}
 use lib.Dec.{T, eqb, ltb, eqb→eq, ltb→lt, lt→ltb}
-use lib.ListN.{getD, length, drop, length-drop}
+use lib.ListN.{length, drop, length-drop}
 use lib.Seq.{ext-getD, getD-drop}
-use Rattle.rules.specs.Tests.{_&_}
-use Rattle.rules.specs.Limits.{none}
 use Rattle.rules.specs.Below.{list}
 use Rattle.rules.specs.Tables.{Base, finish}
 use Rattle.rules.specs.Commands.{freeAll, gone, goneList}
@@ -50,8 +47,9 @@ module _ (e : Base) (leaders queue : List ℕ) (k : Known e leaders) (holds-n : 
       isMarked→ p h t = unfold isMarked in record {
         below = h;
         free = eqb→eq (states ! p) 0 (and-left (eqb (states ! p) 0) (ltb (label leaders p) (e .n)) t);
-        labelled = ltb→lt (label leaders p) (e .n) (and-right (eqb (states ! p) 0) (ltb (label leaders p) (e .n)) t)
+        labelled = ltb→lt (label leaders p) (e .n) (and-right (eqb (states ! p) 0) (ltb (label leaders p) (e .n)) t);
       }
+
       →isMarked : (p : ℕ) → Marked (e .n) leaders states p → T (isMarked (e .n) leaders states p)
       →isMarked p g = unfold isMarked in
           and-both (eqb (states ! p) 0) (ltb (label leaders p) (e .n)) (subst (λ (x : ℕ). T (eqb x 0)) (sym (g .free)) tt) (lt→ltb (label leaders p) (e .n) (g .labelled))
@@ -74,7 +72,7 @@ module _ (e : Base) (leaders queue : List ℕ) (k : Known e leaders) (holds-n : 
     listed =
         w .listed ∙ ap₂ (λ (x y : List ℕ). x ++ y) lists (drop-same queue₁ queue r same (λ i h. rest i (omega (arith, all-listed))))
         ∙ ap (λ (x : ℕ). goneList e ++ drop x queue) (w .many ∙ ap length lists);
-    many = w .many ∙ ap length lists
+    many = w .many ∙ ap length lists;
   }
 
 -- nothing fell: nothing is left to list
@@ -85,7 +83,7 @@ none-swept e leaders states links counts queue v =
     record {
       cleared = record { size = v .core .sizes .leaders-n; off = λ p _ g. absurd (none-marked p g); on = λ p _ _. refl };
       listed = ap (λ (l : List ℕ). l ++ queue) (empty (list (isMarked (e .n) leaders states) (e .n)) many);
-      many = many
+      many = many;
     }
   where
     empty : (l : List ℕ) → 0 ≡ length l → [] ≡ l
@@ -102,17 +100,17 @@ module _ (n : ℕ) (states links leaders counts queue : List ℕ) (first : ℕ) 
   -- no group fell: nothing changes
   pub none-freed : first ≡ 0 → Freed n states links leaders counts queue first states links leaders counts queue 0
   none-freed z = record {
-    all = λ s l h queue₀ hn k v same rest.
+    all = λ s l h queue₀ holds-n k v same rest.
         let e : Base = base n s l h in
         let w : Inv e leaders states links counts queue 0 0 = subst (λ (x : ℕ). Inv e leaders states links counts queue 0 x) z v in
-        settled e leaders queue₀ k hn states links counts queue 0 w same (λ i _. rest i (omega arith)) leaders queue 0 (none-swept e leaders states links counts queue w)
+        settled e leaders queue₀ k holds-n states links counts queue 0 w same (λ i _. rest i (omega arith)) leaders queue 0 (none-swept e leaders states links counts queue w);
   }
 
   -- the places of the queue are erased and the marked pieces listed
   pub all-freed : (states′ links′ counts′ queue₁ : List ℕ) (tail : ℕ) → Stepped n leaders states links counts queue 0 first states′ links′ counts′ queue₁ (4 * tail) tail → length queue₁ ≡ length queue
       → (leaders′ queue′ : List ℕ) (r : ℕ) → Swept n states′ leaders queue₁ leaders′ queue′ r → Freed n states links leaders counts queue first states′ links′ leaders′ counts′ queue′ r
   all-freed states′ links′ counts′ queue₁ tail d same leaders′ queue′ r w = record {
-    all = λ s l h queue₀ hn k v same₀ rest.
-        settled (base n s l h) leaders queue₀ k hn states′ links′ counts′ queue₁ tail (d .inv s l h k v) (same ∙ same₀)
-        (λ i u. d .rest i u ∙ rest i (omega (arith, d .grows))) leaders′ queue′ r w
+    all = λ s l h queue₀ holds-n k v same₀ rest.
+        settled (base n s l h) leaders queue₀ k holds-n states′ links′ counts′ queue₁ tail (d .inv s l h k v) (same ∙ same₀)
+        (λ i u. d .rest i u ∙ rest i (omega (arith, d .grows))) leaders′ queue′ r w;
   }

@@ -1,5 +1,8 @@
 pub mod Queue
+pub mod Marking
+pub mod Erasing
 pub mod Steps
+pub mod Places
 pub mod End
 pub mod Final
 pub mod Fall

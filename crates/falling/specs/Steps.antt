@@ -1,19 +1,21 @@
 -- What the functions of the letting go require and ensure, and the step at one place of the queue.
-use mathlib.Core.Path.{_≡_, refl, sym, ap, ap₂, _∙_, subst}
+use mathlib.Core.Path.{_≡_, refl, sym, ap, _∙_, subst}
 use mathlib.Core.Logic.{_⊎_, inl, inr, ⊎-elim}
 use mathlib.Core.List.{List}
-use Prim.Native.Nat.{ℕ, zero, suc, _+_, _-_, _*_, _/_, _%_, _≤_, _<_}
+use Prim.Native.Nat.{ℕ, _+_, _-_, _*_, _/_, _%_, _≤_, _<_}
 use native.Mathlib.Omega.{arith}
-use lib.ListN.{getD, length, set, length-set}
-use lib.Seq.{getD-set-same, getD-set-other}
+use lib.ListN.{length, set}
+use lib.Seq.{getD-set-other}
 use Rattle.rules.specs.Limits.{none}
-use Rattle.rules.specs.Tables.{Base, state, linkAt}
-use Rattle.rules.specs.Words.{Frozen, Well, Leader, FrozenWell}
+use Rattle.rules.specs.Tables.{Base, linkAt}
+use Rattle.rules.specs.Words.{Frozen, Well}
 use Rattle.laws.specs.Commands.{frozen-of}
-use Rattle.tallies.specs.Sums.{eq-or, lt-or, set-cases, getD-any}
-use Rattle.tallies.specs.Tally.{_!_, label, CountsMatch}
+use Rattle.tallies.specs.Sums.{getD-any}
+use Rattle.tallies.specs.Tally.{_!_, label}
 use Rattle.tallies.specs.Exact.{Exact, label-past, label-frozen, label-below, label-own}
-use Rattle.falling.specs.Queue.{Marked, Erased, Sizes, Core, Over, Past, Inv, spot, marked-keeps, marked-new, mark, room, tail-most, past-keeps, over-mark, over-leader, erase-in, erase-out, had, past-next, over-out, over-still, out-at}
+use Rattle.falling.specs.Queue.{Marked, Core, Past, Inv}
+use Rattle.falling.specs.Marking.{marked-keeps, marked-new, mark, room, tail-most, past-keeps, over-mark, over-leader}
+use Rattle.falling.specs.Erasing.{erase-in, erase-out, had, past-next, over-out, over-still, out-at}
 
 abbrev pub base : ℕ → List ℕ → List ℕ → List ℕ → Base
 base n states links holds = record { n = n; states = states; links = links; holds = holds }
@@ -31,6 +33,7 @@ pub record Going (n : ℕ) (leaders states links counts queue : List ℕ) (m tai
   pub known : Known (base n states₀ links₀ holds) leaders
   pub inv : Inv (base n states₀ links₀ holds) leaders states links counts queue m tail
 
+-- whatever the letting go began with goes on; the queue grows, and later entries stay
 pub record Stepped (n : ℕ) (leaders states links counts queue : List ℕ) (m tail : ℕ) (states′ links′ counts′ queue′ : List ℕ) (m′ tail′ : ℕ) : Type 0 where
   pub inv : (states₀ links₀ holds : List ℕ) → Known (base n states₀ links₀ holds) leaders → Inv (base n states₀ links₀ holds) leaders states links counts queue m tail → Inv (base n states₀ links₀ holds) leaders states′ links′ counts′ queue′ m′ tail′
   pub grows : tail ≤ tail′
@@ -44,7 +47,7 @@ pub stepped-on : (n : ℕ) (leaders states links counts queue : List ℕ) (m tai
 stepped-on n leaders states links counts queue m tail states₁ links₁ counts₁ queue₁ m₁ tail₁ states₂ links₂ counts₂ queue₂ m₂ tail₂ a b = record {
   inv = λ s l h k v. b .inv s l h k (a .inv s l h k v);
   grows = omega (arith, a .grows, b .grows);
-  rest = λ i h. b .rest i h ∙ a .rest i (omega (arith, b .grows))
+  rest = λ i h. b .rest i h ∙ a .rest i (omega (arith, b .grows));
 }
 
 pub going-on : (n : ℕ) (leaders states links counts queue : List ℕ) (m tail : ℕ) (states₁ links₁ counts₁ queue₁ : List ℕ) (m₁ tail₁ : ℕ) → Going n leaders states links counts queue m tail → Stepped n leaders states links counts queue m tail states₁ links₁ counts₁ queue₁ m₁ tail₁ → Going n leaders states₁ links₁ counts₁ queue₁ m₁ tail₁
@@ -90,7 +93,7 @@ module _ (e : Base) (leaders states links counts queue : List ℕ) (m tail : ℕ
   target =
       ⊎-elim
       (λ same. subst (λ (u : ℕ). (u ≡ none) ⊎ Frozen e u) (sym same) (frozen-of e x (k .wells x x-n) (fx .is) .links (m % 4) (omega arith)))
-      (λ er. inl (er .empty))
+      (λ gap. inl (gap .empty))
       (v .core .places i i-n)
 
   pub ready : (m / 4 < length queue) × (x ≤ 1024) × (x < length leaders) × (i < length links)
@@ -98,7 +101,7 @@ module _ (e : Base) (leaders states links counts queue : List ℕ) (m tail : ℕ
     omega (arith, tail-n, v .core .sizes .queue-n),
     omega (arith, x-n, v .core .sizes .small),
     omega (arith, x-n, v .core .sizes .leaders-n),
-    omega (arith, i-n, v .core .sizes .links-n)
+    omega (arith, i-n, v .core .sizes .links-n),
   )
 
   small : e .n ≤ 1024
@@ -116,7 +119,7 @@ module _ (e : Base) (leaders states links counts queue : List ℕ) (m tail : ℕ
       core = erase-in e leaders states links counts queue tail (v .core) i i-n gi never (inl off-t);
       over = v .over;
       past = past-next e leaders states links counts queue tail (v .core) i i-n gi never m refl (v .past);
-      place = omega arith
+      place = omega arith;
     }
 
   module _ (some-t : t < e .n) where
@@ -147,7 +150,7 @@ module _ (e : Base) (leaders states links counts queue : List ℕ) (m tail : ℕ
             core = erase-in e leaders states links counts queue tail (v .core) i i-n gi g (inr same-i);
             over = v .over;
             past = past-next e leaders states links counts queue tail (v .core) i i-n gi g m refl (v .past);
-            place = omega arith
+            place = omega arith;
           }
 
       module _ (z : states ! t ≡ 0 → ⊥) where
@@ -174,7 +177,7 @@ module _ (e : Base) (leaders states links counts queue : List ℕ) (m tail : ℕ
               past =
                   past-next e leaders (set states t 0) links counts (set queue tail t) (tail + 1) core₁ i i-n gi₁ g m (ap (λ (u : ℕ). 4 * u + m % 4) x-still)
                   (past-keeps e leaders states links counts queue tail (v .core) t some-t l z m (v .place) (v .past));
-              place = omega arith
+              place = omega arith;
             }
 
     -- another label
@@ -205,7 +208,7 @@ module _ (e : Base) (leaders states links counts queue : List ℕ) (m tail : ℕ
         core = core₂;
         over = over-still e leaders states links counts queue tail (v .core) i i-n gi nope L at-L l-n off-L nz (v .over);
         past = past₂;
-        place = omega arith
+        place = omega arith;
       }
 
       own-L : label leaders L ≡ L
@@ -228,5 +231,5 @@ module _ (e : Base) (leaders states links counts queue : List ℕ) (m tail : ℕ
             core = mark e leaders states (set links i none) c queue tail core₂ L l-n l unmarked (ap (λ (u : ℕ). c ! u) own-L ∙ n-L) (inl own-L);
             over = over-leader e leaders states (set links i none) c queue tail core₂ L l-n l unmarked l-n (over-out e leaders states links counts queue tail (v .core) i i-n gi nope L at-L l-n off-L (v .over));
             past = past-keeps e leaders states (set links i none) c queue tail core₂ L l-n l unmarked (m + 1) (omega arith) past₂;
-            place = omega arith
+            place = omega arith;
           }

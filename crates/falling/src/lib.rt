@@ -1,1 +1,1 @@
-// The letting go of groups, as a model: what holds while marked pieces stand in a queue and their places are erased; definitions and theorems, no code.
+// The letting go of groups: what holds while marked pieces stand in a queue and their places are erased; definitions and theorems, no code.

@@ -1,22 +1,21 @@
 -- The next place of the search's piece is explored: it is passed, its target is pushed, or blocks are merged.
 use mathlib.Core.Path.{_≡_, refl, sym, _∙_, ap, subst}
 use mathlib.Core.List.{List}
-use mathlib.Core.Logic.{_⊎_, inl, inr, ⊎-elim}
-use Prim.Native.Nat.{ℕ, zero, suc, pred, _+_, _-_, _*_, _≤_, _<_}
+use Prim.Native.Nat.{ℕ, suc, pred, _+_, _-_, _*_, _≤_, _<_}
 use native.Mathlib.Omega.{arith}
 use native.Mathlib.Numerals.{add-one}
 use lib.ListN.{length, set, length-set}
-use Rattle.rules.specs.Reach.{Link, Reach}
-use Rattle.paths.specs.Ground.{Ground, ground, Step, Way, _!_, one-step}
+use Rattle.rules.specs.Reach.{Link}
+use Rattle.paths.specs.Ground.{Ground, ground, Way, _!_, one-step}
 use Rattle.paths.specs.Search.{finished, Regions, Invariant, measure, rest}
 use Rattle.paths.specs.Tools.{set-same, set-other}
 use Rattle.paths.specs.Sums.{count-le}
 use Rattle.paths.specs.Moves.Bump.{bumped, bump}
 use Rattle.paths.specs.Moves.Push as move
 use Rattle.paths.specs.Moves.Merge.{merge, merged-below}
-use Rattle.groups.specs.Layout.{part, tail, regions, moved, part-get, part-length, put-next, tail-keeps}
+use Rattle.groups.specs.Layout.{part, regions, moved, part-get, part-length, put-next, tail-keeps}
 use Rattle.groups.specs.Stores.{height-pos, height-le, moved-one, moved-push, push-view, push-tail, bump-rest}
-use Rattle.groups.specs.Steps.{Lent, view, Stands, Going, Stepped, pushed, Blocks, Cut}
+use Rattle.groups.specs.Steps.{view, Stands, Going, Stepped, pushed, Blocks, Cut}
 use Rattle.groups.specs.declared.At.{At}
 
 -- the next place of the same piece, with some blocks left

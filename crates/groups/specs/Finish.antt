@@ -1,19 +1,19 @@
 -- The search's piece is explored: its block is finished, or not, and the search goes back to its parent.
 use mathlib.Core.Path.{_≡_, refl, sym, _∙_, ap, subst}
 use mathlib.Core.List.{List}
-use mathlib.Core.Logic.{_⊎_, inl, inr, ⊎-elim}
-use Prim.Native.Nat.{ℕ, zero, suc, pred, _+_, _-_, _*_, _≤_, _<_}
+use mathlib.Core.Logic.{⊎-elim}
+use Prim.Native.Nat.{ℕ, pred, _+_, _-_, _*_, _≤_, _<_}
 use native.Mathlib.Omega.{arith}
 use native.Mathlib.Numerals.{sub-one}
 use lib.ListN.{length, set, length-set}
 use Rattle.paths.specs.Ground.{Ground, ground, Closed, _!_}
-use Rattle.paths.specs.Search.{finished, Regions, Invariant, measure, height, rest}
-use Rattle.paths.specs.Tools.{lt-or, eq-or}
+use Rattle.paths.specs.Search.{Regions, Invariant, measure, height, rest}
+use Rattle.paths.specs.Tools.{lt-or}
 use Rattle.paths.specs.Moves.Back.{back, stand-pos}
 use Rattle.paths.specs.Moves.Pop.{popped, pop, Closing, Lowest}
 use Rattle.groups.specs.Layout.{part, tail, regions, moved, part-get, part-length, put-next, tail-keeps}
 use Rattle.groups.specs.Stores.{height-pos, moved-same}
-use Rattle.groups.specs.Steps.{Lent, view, Stands, Going, Stepped, ClosedOff, Pieces, Resumed}
+use Rattle.groups.specs.Steps.{view, Stands, Going, Stepped, ClosedOff, Pieces, Resumed}
 use Rattle.groups.specs.Explore.{stand-lt, size-n, blocks-some, blocks-n, place-is}
 use Rattle.groups.specs.declared.At.{At}
 

@@ -1,9 +1,9 @@
 -- The work as six regions: what a read and a store at an offset are of the regions.
-use mathlib.Core.Path.{_≡_, refl, sym, _∙_, ap, subst}
+use mathlib.Core.Path.{_≡_, refl, _∙_, ap}
 use mathlib.Core.List.{List}
-use Prim.Native.Nat.{ℕ, zero, suc, pred, _+_, _-_, _*_, _≤_, _<_}
+use Prim.Native.Nat.{ℕ, _+_, _-_, _*_, _≤_, _<_}
 use native.Mathlib.Omega.{arith}
-use lib.ListN.{getD, length, set, take, drop, length-set, length-take, length-drop}
+use lib.ListN.{length, set, take, drop, length-drop}
 use lib.Seq.{drop-set-lt, drop-set-add, take-set-lt, take-set-le, getD-take, getD-drop, length-take-le}
 use Rattle.paths.specs.Ground.{_!_}
 use Rattle.paths.specs.Search.{Regions, Sizes}

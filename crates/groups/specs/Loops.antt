@@ -1,15 +1,15 @@
 -- The three loops: dropping block starts, the lowest piece of a block, finishing a block.
-use mathlib.Core.Path.{_≡_, refl, sym, _∙_, ap, subst}
+use mathlib.Core.Path.{_≡_, refl, sym, _∙_, ap}
 use mathlib.Core.List.{List}
-use mathlib.Core.Logic.{_⊎_, inl, inr, ⊎-elim}
-use Prim.Native.Nat.{ℕ, zero, suc, pred, _+_, _-_, _*_, _≤_, _<_}
+use mathlib.Core.Logic.{⊎-elim}
+use Prim.Native.Nat.{ℕ, pred, _+_, _-_, _*_, _≤_, _<_}
 use native.Mathlib.Omega.{arith}
-use lib.ListN.{length, set, length-set}
+use lib.ListN.{length, set}
 use Rattle.paths.specs.Ground.{_!_}
-use Rattle.paths.specs.Search.{finished, Regions}
-use Rattle.paths.specs.Tools.{lt-or, eq-or, set-cases, set-other}
+use Rattle.paths.specs.Search.{Regions}
+use Rattle.paths.specs.Tools.{lt-or, set-cases, set-other}
 use Rattle.paths.specs.Moves.Pop.{Lowest}
-use Rattle.groups.specs.Layout.{regions, part, tail, part-get, part-length, put-marks, put-leaders, tail-keeps}
+use Rattle.groups.specs.Layout.{regions, part, part-get, part-length, put-marks, put-leaders, tail-keeps}
 use Rattle.groups.specs.Steps.{Cut, ClosedOff, Pieces}
 
 abbrev pub CutLoop : ℕ → List ℕ → ℕ → ℕ → ℕ → Type 0

@@ -1,13 +1,13 @@
 -- From one search to what the callers are told: a search from one root, and one after another from every piece of the class.
 use mathlib.Core.Path.{_≡_, refl, sym, _∙_, ap, subst}
 use mathlib.Core.List.{List}
-use mathlib.Core.Logic.{_⊎_, inl, inr, ⊎-elim}
+use mathlib.Core.Logic.{inl, inr, ⊎-elim}
 use Prim.Native.Nat.{ℕ, _+_, _*_, _≤_, _<_}
 use native.Mathlib.Omega.{arith}
 use lib.ListN.{length}
-use Rattle.rules.specs.Reach.{Reach, here}
+use Rattle.rules.specs.Reach.{here}
 use Rattle.paths.specs.Ground.{ground, Closed, Lead, named, _!_}
-use Rattle.paths.specs.Search.{finished, Calm, Visited}
+use Rattle.paths.specs.Search.{finished, Calm}
 use Rattle.paths.specs.Tools.{lt-or}
 use Rattle.groups.specs.Layout.{part, tail, tail-is, part-get}
 use Rattle.groups.specs.Steps.{Lent, Started, Searched}

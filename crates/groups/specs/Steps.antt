@@ -1,9 +1,9 @@
 -- What the functions of the search require and ensure, over the lists of the tables.
 use mathlib.Core.Path.{_≡_}
 use mathlib.Core.List.{List}
-use Prim.Native.Nat.{ℕ, suc, pred, _+_, _-_, _*_, _≤_, _<_}
+use Prim.Native.Nat.{ℕ, pred, _+_, _*_, _≤_, _<_}
 use lib.ListN.{length, set}
-use Rattle.paths.specs.Ground.{Ground, ground, Closed, _!_}
+use Rattle.paths.specs.Ground.{ground, Closed, _!_}
 use Rattle.paths.specs.Search.{finished, Regions, Invariant, Calm, Visited, measure}
 use Rattle.groups.specs.Layout.{part, tail, regions, moved}
 use Rattle.groups.specs.declared.At.{At}
@@ -44,7 +44,7 @@ pub record Stepped (n : ℕ) (states links : List ℕ) (class : ℕ) (w : List �
 abbrev pub pushed : ℕ → List ℕ → ℕ → ℕ → ℕ → ℕ → List ℕ
 pushed n w size blocks stand piece = set (set (set (set w piece (size + 1)) (3 * n + size) piece) (4 * n + blocks) size) (5 * n + size) stand
 
--- the starts of the blocks rise from a start at or below the position
+-- there is a block, and the first starts at or below the position
 pub record Blocks (n : ℕ) (w : List ℕ) (blocks position : ℕ) : Type 0 where
   pub most : n ≤ 1024
   pub work-n : 6 * n ≤ length w

@@ -1,10 +1,10 @@
 -- What a push and a carried place are of the regions, and what one step does to the measure.
-use mathlib.Core.Path.{_≡_, refl, sym, _∙_, ap, subst}
+use mathlib.Core.Path.{_≡_, refl, sym, _∙_, ap}
 use mathlib.Core.List.{List}
-use Prim.Native.Nat.{ℕ, zero, suc, pred, _+_, _-_, _*_, _≤_, _<_}
+use Prim.Native.Nat.{ℕ, zero, suc, _+_, _*_, _≤_, _<_}
 use native.Mathlib.Omega.{arith}
 use native.Mathlib.Numerals.{add-one}
-use lib.ListN.{length, set, length-set}
+use lib.ListN.{length, set}
 use lib.Seq.{set-set, set-getD}
 use Rattle.paths.specs.Ground.{_!_}
 use Rattle.paths.specs.Search.{Regions, rest, height}
@@ -12,7 +12,7 @@ use Rattle.paths.specs.Tools.{set-same, set-other}
 use Rattle.paths.specs.Sums.{rest-less}
 use Rattle.paths.specs.Moves.Bump.{bumped}
 use Rattle.paths.specs.Moves.Push as move
-use Rattle.groups.specs.Layout.{part, tail, regions, moved, put-marks, put-next, put-stack, put-starts, put-parents, tail-keeps}
+use Rattle.groups.specs.Layout.{part, tail, regions, moved, put-marks, put-stack, put-starts, put-parents, tail-keeps}
 use Rattle.groups.specs.Steps.{pushed}
 
 pub height-pos : (size stand : ℕ) → 0 < size → height size stand ≡ suc stand

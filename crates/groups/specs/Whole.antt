@@ -1,20 +1,19 @@
 -- The whole search from one root: how it begins, what its loop keeps, and how it ends.
 use mathlib.Core.Path.{_≡_, refl, sym, _∙_, ap, subst}
 use mathlib.Core.List.{List}
-use mathlib.Core.Logic.{_⊎_, inl, inr, ⊎-elim}
-use Prim.Native.Nat.{ℕ, zero, suc, pred, _+_, _-_, _*_, _≤_, _<_}
+use mathlib.Core.Logic.{inl, ⊎-elim}
+use Prim.Native.Nat.{ℕ, _*_, _≤_, _<_}
 use native.Mathlib.Omega.{arith}
-use lib.ListN.{length, set, length-set}
-use Rattle.rules.specs.Reach.{Reach, here}
-use Rattle.paths.specs.Ground.{Ground, ground, Closed, _!_}
-use Rattle.paths.specs.Search.{finished, Regions, Invariant, Visited}
-use Rattle.paths.specs.Tools.{lt-or, set-other}
+use lib.ListN.{length, length-set}
+use Rattle.rules.specs.Reach.{here}
+use Rattle.paths.specs.Ground.{Ground, ground, _!_}
+use Rattle.paths.specs.Search.{finished, Regions, Invariant}
 use Rattle.paths.specs.Stays.{kept-in}
 use Rattle.paths.specs.Moves.Push as move
 use Rattle.paths.specs.Moves.Whole.{begins, finishes}
-use Rattle.groups.specs.Layout.{part, tail, regions, moved, part-get, part-length, sizes}
+use Rattle.groups.specs.Layout.{part, tail, regions, part-get, sizes}
 use Rattle.groups.specs.Stores.{moved-same, push-view, push-tail}
-use Rattle.groups.specs.Steps.{Lent, view, Stands, Going, Stepped, pushed, Started, Searched}
+use Rattle.groups.specs.Steps.{Lent, Stands, Going, Stepped, pushed, Started, Searched}
 use Rattle.groups.specs.declared.At.{At}
 
 -- the search at its root

@@ -2,10 +2,9 @@
 // By piece: marks (0 unseen, q + 1 on the stack at position q, 65535 finished), next places, leaders.
 // By position: the stack, the starts of its blocks, the parent's position.
 ghost use mathlib.Core.Path.{_≡_};
-ghost use Prim.Native.Nat.{ℕ, _+_, _-_, _*_, _≤_, _<_};
+ghost use Prim.Native.Nat.{_+_, _*_, _≤_, _<_};
 ghost use lib.ListN.{length, set};
 ghost use Rattle.paths.specs.Ground.{_!_, Closed, ground};
-ghost use Rattle.paths.specs.Search.{Visited};
 ghost use Rattle.paths.specs.Moves.Pop.{Lowest};
 ghost use Rattle.groups.specs.Layout.{part};
 ghost use Rattle.groups.specs.Steps.{pushed, Going, Stepped, Cut, Blocks, ClosedOff, Pieces, Resumed, Started, Searched};
@@ -60,14 +59,7 @@ fn merge(n: usize, work: &[u32], blocks: usize, position: usize) -> usize
 }
 
 // Explores the next place of the piece at which the search stands.
-fn explore(
-    n: usize,
-    states: &[u8],
-    links: &[u16],
-    class: u8,
-    work: &mut [u32],
-    a: At,
-) -> At
+fn explore(n: usize, states: &[u8], links: &[u16], class: u8, work: &mut [u32], a: At) -> At
     requires { ⌜ Going n (now states) (now links) class (now work) a × (a .place < 4) ⌝ }
     ensures { λ r. ⌜ Stepped n (now (states .entry)) (now (links .entry)) class (now (work .entry)) a (now (work .exit)) r ⌝ }
 {
@@ -174,14 +166,7 @@ fn resume(n: usize, work: &[u32], size: usize, blocks: usize, stand: usize) -> A
 }
 
 // The piece at which the search stands is explored: its block is finished if it starts there, and the search goes back to its parent.
-fn finish(
-    n: usize,
-    states: &[u8],
-    links: &[u16],
-    class: u8,
-    work: &mut [u32],
-    a: At,
-) -> At
+fn finish(n: usize, states: &[u8], links: &[u16], class: u8, work: &mut [u32], a: At) -> At
     requires { ⌜ Going n (now states) (now links) class (now work) a × Closed (ground n (now states) (now links) class) × (a .place ≡ 4) ⌝ }
     ensures { λ r. ⌜ Stepped n (now (states .entry)) (now (links .entry)) class (now (work .entry)) a (now (work .exit)) r ⌝ }
 {
@@ -200,14 +185,7 @@ fn finish(
     resume(n, work, size, blocks, parent)
 }
 
-fn step(
-    n: usize,
-    states: &[u8],
-    links: &[u16],
-    class: u8,
-    work: &mut [u32],
-    a: At,
-) -> At
+fn step(n: usize, states: &[u8], links: &[u16], class: u8, work: &mut [u32], a: At) -> At
     requires { ⌜ Going n (now states) (now links) class (now work) a × Closed (ground n (now states) (now links) class) ⌝ }
     ensures { λ r. ⌜ Stepped n (now (states .entry)) (now (links .entry)) class (now (work .entry)) a (now (work .exit)) r ⌝ }
 {

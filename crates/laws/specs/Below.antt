@@ -157,7 +157,6 @@ pub among-cons : {x y : ℕ} {ys : List ℕ} → Among x (y ∷ ys) → (x ≡ y
 among-cons (first e) = inl e
 among-cons (later a) = inr a
 
-
 module _ (f : ℕ → Bool) where
   cons-or : (p : ℕ) (l : List ℕ) (q : ℕ) → Among q (pick (f p) (p ∷ l) l) ↔ (((q ≡ p) × T (f p)) ⊎ Among q l)
   cons-or p l q = go (f p)
@@ -198,6 +197,7 @@ module _ (f : ℕ → Bool) where
       on : (l : List ℕ) → ((q : ℕ) → Among q l → p < q) → Ascending l → Ascending (p ∷ l)
       on [] h a = one
       on (q ∷ l) h a = more (h q (first refl)) a
+
       go : (b : Bool) → Ascending (listFrom (suc p) f k) → Ascending (pick b (p ∷ listFrom (suc p) f k) (listFrom (suc p) f k))
       go true a = on (listFrom (suc p) f k) (λ q m. of-listFrom (suc p) k q m .0) a
       go false a = a

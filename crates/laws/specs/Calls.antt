@@ -39,18 +39,17 @@ sized→ s t =
     let t2 = and-right (leb n most) _ t1 in
     let t3 = and-right (eqb (length (s .base .states)) n) _ t2 in
     let t4 = and-right (eqb (length (s .base .links)) (4 * n)) _ t3 in
-    let t5 = and-right (eqb (length (s .leaders)) n) _ t4 in
-    (
+    let t5 = and-right (eqb (length (s .leaders)) n) _ t4 in (
       leb→le 1 n (and-left (leb 1 n) _ t),
       record {
         base = record {
           states = eqb→eq (length (s .base .states)) n (and-left (eqb (length (s .base .states)) n) _ t2);
           links = eqb→eq (length (s .base .links)) (4 * n) (and-left (eqb (length (s .base .links)) (4 * n)) _ t3);
           holds = eqb→eq (length (s .base .holds)) n (and-left (eqb (length (s .base .holds)) n) (eqb (length (s .counts)) n) t5);
-          most = leb→le n most (and-left (leb n most) _ t1)
+          most = leb→le n most (and-left (leb n most) _ t1);
         };
         leaders = eqb→eq (length (s .leaders)) n (and-left (eqb (length (s .leaders)) n) _ t4);
-        counts = eqb→eq (length (s .counts)) n (and-right (eqb (length (s .base .holds)) n) (eqb (length (s .counts)) n) t5)
+        counts = eqb→eq (length (s .counts)) n (and-right (eqb (length (s .base .holds)) n) (eqb (length (s .counts)) n) t5);
       },
     )
 
@@ -134,6 +133,7 @@ refused-stays a c t = go (judge a c) t
     same : (b : Bool) (w : List ℕ) → (pick b a (areasOf (a .store) (a .list) w) .store ≡ a .store) × (pick b a (areasOf (a .store) (a .list) w) .list ≡ a .list)
     same true w = (refl, refl)
     same false w = (refl, refl)
+
     go : (v : Verdict) → T (not (isAccepted (ended a c v .reply))) → (ended a c v .areas .store ≡ a .store) × (ended a c v .areas .list ≡ a .list)
     go accepted t = absurd (T-not (isAccepted (acceptedCall (cleared a c) c .reply)) t (accepted-said c (cleared a c)))
     go (refused r) t = same (eqb (numberOf r) 1) _
@@ -146,11 +146,11 @@ empty-ok n h = record {
   sized = record {
     base = record { states = length-replicate n 0; links = length-replicate (4 * n) none; holds = length-replicate n 0; most = h };
     leaders = length-replicate n none;
-    counts = length-replicate n 0
+    counts = length-replicate n 0;
   };
   sound = λ p l. free
-    (record { is = getD-replicate n p 0 0 l; links = λ k i. getD-replicate (4 * n) (4 * p + k) none 0 (omega arith); holds = getD-replicate n p 0 0 l })
-    (getD-replicate n p none 0 l) (getD-replicate n p 0 0 l)
+      (record { is = getD-replicate n p 0 0 l; links = λ k i. getD-replicate (4 * n) (4 * p + k) none 0 (omega arith); holds = getD-replicate n p 0 0 l })
+      (getD-replicate n p none 0 l) (getD-replicate n p 0 0 l);
 }
 
 -- After every accepted call, but for check, the store is what 01 defines: each area its length, and sound
@@ -203,8 +203,10 @@ through a c o l s d = record { exact = ap shape (d .exact) ∙ go (verdict (a .s
   where
     w : List ℕ
     w = clear (a .store .base .n) (a .work)
+
     shape : Effect → Outcome
     shape e = outcome (e .reply) (areasOf (e .store) (e .list) w)
+
     go : (v : Verdict) → verdict (a .store .base) c ≡ v → shape (effected (a .store) (a .list) c v) ≡ ended a (does c) v
     go accepted e = unfold effected ended acceptedCall cleared takesWork in refl
     go (refused r) e = unfold effected ended refusedCall cleared takesWork in (ap (outcome (refusedBy r c)) (sym (pick-false (eqb (numberOf r) 1) a _ (not-size (a .store .base) c r e))))

@@ -156,6 +156,7 @@ module _ (b : Base) (z : SizedBase b) (g : Good b) (p : ℕ) (h : p < b .n) (fr 
       root : (r : ℕ) → Root b r → Root newBase r
       root r (inl d) = inl (new-draft r d)
       root r (inr d) = inr (new-frozen r (d .0), d .1)
+
       go : (q : ℕ) → Frozen newBase q → Dec (q ≡ p) → Kept newBase q
       go q f (yes e) = absurd (let a = new-at q e in let c = f .is in omega arith)
       go q f (no d) =
@@ -194,9 +195,11 @@ module _ (b : Base) (z : SizedBase b) (ws : Wells b) (p k t : ℕ) (h : p < b .n
       other (wfree w) d = wfree (record { is = w .is; links = λ j n. set-off q j n (inl d) ∙ w .links j n; holds = w .holds })
       other (wdraft w) d = wdraft (record { is = w .is; links = λ j n. subst (λ (x : ℕ). (x ≡ none) ⊎ Live setBase x) (sym (set-off q j n (inl d))) (⊎-elim (λ x. inl x) (λ x. inr (set-live (linkAt b q j) x)) (w .links j n)); holds = w .holds })
       other (wfrozen w) d = wfrozen (record { is = w .is; links = λ j n. subst (λ (x : ℕ). (x ≡ none) ⊎ Frozen setBase x) (sym (set-off q j n (inl d))) (⊎-elim (λ x. inl x) (λ x. inr (set-frozen (linkAt b q j) x)) (w .links j n)); holds = w .holds })
+
       at : (j : ℕ) → j < 4 → DraftWell b p → Dec (j ≡ k) → (linkAt setBase p j ≡ none) ⊎ Live setBase (linkAt setBase p j)
       at j n w (yes e) = subst (λ (x : ℕ). (x ≡ none) ⊎ Live setBase x) (sym (ap (linkAt setBase p) e ∙ set-at)) (⊎-elim (λ x. inl x) (λ x. inr (set-live t x)) ok)
       at j n w (no d) = subst (λ (x : ℕ). (x ≡ none) ⊎ Live setBase x) (sym (set-off p j n (inr d))) (⊎-elim (λ x. inl x) (λ x. inr (set-live (linkAt b p j) x)) (w .links j n))
+
       go : Dec (q ≡ p) → Well b q → Well setBase q
       go (yes e) w =
           let f = draft-of b p (subst (Well b) e w) dr in
@@ -324,14 +327,16 @@ module _ (b : Base) (z : SizedBase b) (g : Good b) (p : ℕ) (h : p < b .n) (dr 
           record {
             is = fr-turns q m t;
             links = λ k i. ⊎-elim (λ y. inl y) (λ y. inr (fr-reached (linkAt b q k) y (trans (x .1) (chain (record { from = m; to = below y; place = k; inside = i; names = refl }) here)))) (w .links k i);
-            holds = fr-few q (let y = w .holds in omega arith)
+            holds = fr-few q (let y = w .holds in omega arith);
           }
         where
           below : {t : ℕ} → Live b t → t < b .n
           below (inl d) = d .below
           below (inr f) = f .below
+
       np : T (not (turns q)) → q ≢ p
       np t e = T-not (turns q) t (turn q (record { below = m; is = ap (state b) e ∙ dr }) (subst (Reaches b p) (sym e) here))
+
       old : T (not (turns q)) → Well b q → Well fr q
       old t (wfree w) = wfree (record { is = fr-stays q m t ∙ w .is; links = w .links; holds = fr-holds q (np t) ∙ w .holds })
       old t (wdraft w) = wdraft (record { is = fr-stays q m t ∙ w .is; links = λ k i. ⊎-elim (λ y. inl y) (λ y. inr (fr-live (linkAt b q k) y)) (w .links k i); holds = fr-holds q (np t) ∙ w .holds })
@@ -343,6 +348,7 @@ module _ (b : Base) (z : SizedBase b) (g : Good b) (p : ℕ) (h : p < b .n) (dr 
     where
       fromP : (q : ℕ) → Reaches b p q → Kept fr q
       fromP q r = record { root = p; is = inr (fr-self, let a = fr-held p refl in omega arith); reached = r }
+
       root : (q r : ℕ) → Reaches b r q → Root b r → Kept fr q
       root q r x (inl d) = ⊎-elim (λ t. fromP q (trans (turned r (d .below) t .1) x)) (λ t. record { root = r; is = inl (record { below = d .below; is = fr-stays r (d .below) t ∙ d .is }); reached = x }) (T-dec (turns r))
       root q r x (inr d) = record { root = r; is = inr (fr-frozen r (d .0), few (ℕ-discrete r p)); reached = x }
@@ -350,6 +356,7 @@ module _ (b : Base) (z : SizedBase b) (g : Good b) (p : ℕ) (h : p < b .n) (dr 
           few : Dec (r ≡ p) → 0 < holdsOf fr r
           few (yes e) = let a = fr-held r e in omega arith
           few (no e) = let a = fr-holds r e in let c = d .1 in omega arith
+
       go : (q : ℕ) → Frozen fr q → T (turns q) ⊎ T (not (turns q)) → Kept fr q
       go q f (inl t) = fromP q (turned q (f .below) t .1)
       go q f (inr t) = let k = g .kept q (record { below = f .below; is = sym (fr-stays q (f .below) t) ∙ f .is }) in root q (k .root) (k .reached) (k .is)
@@ -429,14 +436,19 @@ module _ (b : Base) (z : SizedBase b) (g : Good b) where
     where
       n1 : T (not (not (ltb k 4) or not (eqb t none or ltb t (b .n))))
       n1 = not-or-right (not (ltb p (b .n))) (not (ltb k 4) or not (eqb t none or ltb t (b .n))) (c .number)
+
       h : p < b .n
       h = below-of p (not-or-left (not (ltb p (b .n))) (not (ltb k 4) or not (eqb t none or ltb t (b .n))) (c .number))
+
       i : k < 4
       i = ltb→lt k 4 (not-not (ltb k 4) (not-or-left (not (ltb k 4)) (not (eqb t none or ltb t (b .n))) n1))
+
       fp : T (not (isFree b p))
       fp = not-or-left (isFree b p) (not (eqb t none) & isFree b t) (c .free)
+
       or-skip : T (not (eqb t none)) → T (ltb t (b .n))
       or-skip ne = ⊎-elim (λ e. absurd (T-not (eqb t none) ne e)) (λ x. x) (or-cases (eqb t none) (ltb t (b .n)) (not-not (eqb t none or ltb t (b .n)) (not-or-right (not (ltb k 4)) (not (eqb t none or ltb t (b .n))) n1)))
+
       target : T (not (eqb t none)) → t < b .n → (t ≡ none) ⊎ Live b t
       target ne m = inr (live b t m (g .wells t m) (not-T (isFree b t) (λ f. T-not (not (eqb t none) & isFree b t) (not-or-right (isFree b p) (not (eqb t none) & isFree b t) (c .free)) (and-both (not (eqb t none)) (isFree b t) ne f))))
   edit-well (Freeze p) c = freeze-good p (below-of p (c .number)) (c .free) (c .limit) .wells
@@ -518,7 +530,7 @@ next-ok s c o p =
     let z = o .sized .base in
     record {
       sized = finish-sized (after (s .base) c) (after-sized (s .base) z c);
-      sound = finish-sound (after (s .base) c) (after-good (s .base) z (sound→entries s (o .sound) .good) c p)
+      sound = finish-sound (after (s .base) c) (after-good (s .base) z (sound→entries s (o .sound) .good) c p);
     }
 
 pub step-ok : (s : Store) (c : Command) → Ok s → Ok (stepTo s c)
@@ -540,6 +552,7 @@ module _ (b : Base) (z : SizedBase b) (g : Good b) where
       to a =
           let r = among-list (gone e) (e .n) p .0 a in
           (isFrozen→ e p (r .0) (and-left (isFrozen e p) (not (isKept e p)) (r .1)), λ k. T-not (isKept e p) (and-right (isFrozen e p) (not (isKept e p)) (r .1)) (→isKept e p k))
+
       from : Frozen e p × (¬ Kept e p) → Among p (list (gone e) (e .n))
       from h = among-list (gone e) (e .n) p .1 (h .0 .below, and-both (isFrozen e p) (not (isKept e p)) (→isFrozen e p (h .0 .is)) (not-T (isKept e p) (λ k. h .1 (isKept→ e p k))))
 

@@ -88,10 +88,13 @@ module _ (b : Base) where
           let r = sum-pos (λ q. onlyIf (inGroup b p q) (holdsOf b q)) (b .n) x in
           let y = onlyIf-pos (inGroup b p (r .0)) (holdsOf b (r .0)) (r .2) in
           byHold (r .0) (inGroup→ b p (r .0) (y .0)) (y .1)
+
       named : (r : ℕ) → 0 < places b p r → (k : ℕ) × (k < 4) × T (inGroup b p (linkAt b r k))
       named r t = unfold places in (let w = sum-pos (λ k. onlyIf (inGroup b p (linkAt b r k)) 1) 4 t in (w .0, w .1, onlyIf-pos (inGroup b p (linkAt b r (w .0))) 1 (w .2) .0))
+
       lv : (r : ℕ) → r < b .n → T (isLive b r) → Live b r
       lv r l t = unfold isLive in (⊎-elim (λ x. inl (isDraft→ b r l x)) (λ x. inr (isFrozen→ b r l x)) (or-cases (isDraft b r) (isFrozen b r) t))
+
       linked : 0 < sum (λ r. onlyIf (isLive b r & not (inGroup b p r)) (places b p r)) (b .n) → Why p
       linked x =
           let r = sum-pos (λ r. onlyIf (isLive b r & not (inGroup b p r)) (places b p r)) (b .n) x in
@@ -101,6 +104,7 @@ module _ (b : Base) where
           byLink (r .0) (linkAt b (r .0) (k .0)) (lv (r .0) (r .1) (and-left (isLive b (r .0)) (not (inGroup b p (r .0))) (y .0)))
           (λ g. T-not (inGroup b p (r .0)) (and-right (isLive b (r .0)) (not (inGroup b p (r .0))) (y .0)) (→inGroup b p (r .0) h g)) gq
           (record { from = r .1; to = gq .frozen .below; place = k .0; inside = k .1; names = refl })
+
       go : (x : ℕ) → sum (λ q. onlyIf (inGroup b p q) (holdsOf b q)) (b .n) ≡ x → Why p
       go zero e = linked (omega arith)
       go (suc x) e = held (omega arith)
@@ -117,7 +121,7 @@ module _ (b : Base) where
         leader-one b l (leaderOf b l) l (lead l (x .member .frozen))
         (record {
           member = record { frozen = x .member .frozen; there = here; back = here };
-          lowest = λ q g. x .lowest q (record { frozen = g .frozen; there = trans (x .member .there) (g .there); back = trans (g .back) (x .member .back) })
+          lowest = λ q g. x .lowest q (record { frozen = g .frozen; there = trans (x .member .there) (g .there); back = trans (g .back) (x .member .back) });
         })
 
     kept-below : (m p : ℕ) → Frozen b p → reachers p < m → Kept b p
@@ -126,10 +130,13 @@ module _ (b : Base) where
       where
         l : ℕ
         l = leaderOf b p
+
         lf : Frozen b l
         lf = lead p f .member .frozen
+
         lp : Reaches b l p
         lp = lead p f .member .back
+
         go : ((r : ℕ) → Frozen b r → reachers r < m → Kept b r) → Why l → Kept b p
         go ih (byHold q g x) = record { root = q; is = inr (g .frozen, x); reached = trans (g .back) lp }
         go ih (byLink r q (inl d) out g k) = record { root = r; is = inl d; reached = chain k (trans (g .back) lp) }
@@ -154,5 +161,5 @@ unfolding countOf places
 count-most b m hs p =
     let x = sum-most (λ q. onlyIf (inGroup b p q) (holdsOf b q)) 1000 (b .n) (λ q _. onlyIf-most (inGroup b p q) (holdsOf b q) 1000 (λ t. hs q (inGroup→ b p q t .frozen))) in
     let y = sum-most (λ r. onlyIf (isLive b r & not (inGroup b p r)) (sum (λ k. onlyIf (inGroup b p (linkAt b r k)) 1) 4)) 4 (b .n)
-            (λ r _. onlyIf-most (isLive b r & not (inGroup b p r)) (sum (λ k. onlyIf (inGroup b p (linkAt b r k)) 1) 4) 4 (λ _. sum-most (λ k. onlyIf (inGroup b p (linkAt b r k)) 1) 1 4 (λ k _. onlyIf-most (inGroup b p (linkAt b r k)) 1 1 (λ _. le-refl 1)))) in
+    (λ r _. onlyIf-most (isLive b r & not (inGroup b p r)) (sum (λ k. onlyIf (inGroup b p (linkAt b r k)) 1) 4) 4 (λ _. sum-most (λ k. onlyIf (inGroup b p (linkAt b r k)) 1) 1 4 (λ k _. onlyIf-most (inGroup b p (linkAt b r k)) 1 1 (λ _. le-refl 1)))) in
     omega arith

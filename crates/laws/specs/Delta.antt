@@ -84,7 +84,7 @@ module _ (a b : Base) (d k : ℕ) (e : OnePlace a b d k) (most : a .n ≤ 1024) 
     size = e .size;
     most = most;
     frozen = λ p f. record { below = subst (λ (x : ℕ). p < x) (e .size) (f .below); is = sym (e .states p) ∙ f .is };
-    links = λ p j f i. e .links p j (f .below) i (inl (not-d p f))
+    links = λ p j f i. e .links p j (f .below) i (inl (not-d p f));
   }
 
   back-frozen : (p : ℕ) → Frozen b p → Frozen a p
@@ -118,21 +118,30 @@ module _ (a b : Base) (d k : ℕ) (e : OnePlace a b d k) (most : a .n ≤ 1024) 
     where
       term : (c : Base) → ℕ → ℕ
       term c r = onlyIf (isLive c r & not (inGroup c p r)) (sum (λ j. onlyIf (inGroup c p (linkAt c r j)) 1) 4)
+
       hs : sum (λ q. onlyIf (inGroup a p q) (holdsOf a q)) (a .n) ≡ sum (λ q. onlyIf (inGroup b p q) (holdsOf b q)) (b .n)
       hs = sum-cong (λ q. onlyIf (inGroup a p q) (holdsOf a q)) (λ q. onlyIf (inGroup b p q) (holdsOf b q)) (a .n) (λ q _. ap₂ onlyIf (same-group p q f) (e .holds q)) ∙ ap (sum (λ q. onlyIf (inGroup b p q) (holdsOf b q))) (e .size)
+
       tests : (r : ℕ) → (isLive a r & not (inGroup a p r)) ≡ (isLive b r & not (inGroup b p r))
       tests r = ap₂ (λ (x y : Bool). x & not y) (same-live r) (same-group p r f)
+
       place : (r j : ℕ) → linkAt a r j ≡ linkAt b r j → onlyIf (inGroup a p (linkAt a r j)) 1 ≡ onlyIf (inGroup b p (linkAt b r j)) 1
       place r j x = ap (λ (y : ℕ). onlyIf (inGroup a p y) 1) x ∙ ap (λ (y : Bool). onlyIf y 1) (same-group p (linkAt b r j) f)
+
       others : (r : ℕ) → r < a .n → r ≢ d → term a r ≡ term b r
       others r m n = ap₂ onlyIf (tests r) (sum-cong (λ j. onlyIf (inGroup a p (linkAt a r j)) 1) (λ j. onlyIf (inGroup b p (linkAt b r j)) 1) 4 (λ j i. place r j (e .links r j m i (inl n))))
+
       outer : sum (term a) (a .n) + term b d ≡ sum (term b) (b .n) + term a d
       outer = sum-change (term a) (term b) (a .n) d (e .draft .below) others ∙ ap (λ (x : ℕ). sum (term b) x + term a d) (e .size)
+
       inner : sum (λ j. onlyIf (inGroup a p (linkAt a d j)) 1) 4 + onlyIf (inGroup b p (linkAt b d k)) 1 ≡ sum (λ j. onlyIf (inGroup b p (linkAt b d j)) 1) 4 + onlyIf (inGroup a p (linkAt a d k)) 1
       inner = sum-change (λ j. onlyIf (inGroup a p (linkAt a d j)) 1) (λ j. onlyIf (inGroup b p (linkAt b d j)) 1) 4 k (e .inside) (λ j i n. place d j (e .links d j (e .draft .below) i (inr n)))
+
       at-a : term a d ≡ sum (λ j. onlyIf (inGroup a p (linkAt a d j)) 1) 4
       at-a = onlyIf-true (isLive a d & not (inGroup a p d)) (sum (λ j. onlyIf (inGroup a p (linkAt a d j)) 1) 4) (outside p)
+
       at-b : term b d ≡ sum (λ j. onlyIf (inGroup b p (linkAt b d j)) 1) 4
       at-b = onlyIf-true (isLive b d & not (inGroup b p d)) (sum (λ j. onlyIf (inGroup b p (linkAt b d j)) 1) 4) (subst T (tests d) (outside p))
+
       x-same : onlyIf (inGroup a p (linkAt b d k)) 1 ≡ onlyIf (inGroup b p (linkAt b d k)) 1
       x-same = ap (λ (y : Bool). onlyIf y 1) (same-group p (linkAt b d k) f)

@@ -45,6 +45,7 @@ module _ (h : List Event) (b : Base) (wells : (p : ℕ) → p < b .n → Well b 
       frozen r l x (wfree w) = absurd (let y = w .holds in omega arith)
       frozen r l x (wdraft w) = absurd (let y = w .holds in omega arith)
       frozen r l x (wfrozen w) = record { below = l; is = w .is }
+
       go : Draft b (k .root) ⊎ ((k .root < b .n) × Held h (k .root)) → Root b (k .root)
       go (inl d) = inl d
       go (inr f) = let x : 0 < holdsOf b (k .root) = (let y = held (k .root) (f .0) in let z = f .1 in omega arith) in inr (frozen (k .root) (f .0) x (wells (k .root) (f .0)), x)
@@ -62,7 +63,7 @@ listed-command a (Release p) = take-append-seam (freedBy (a .store .base) (Relea
 listed-command a (Bin p) = take-append-seam (freedBy (a .store .base) (Bin p)) _
 listed-command a (Look p) = unfold freedBy settles in refl
 
-ascending-freed : (b : Base) (c : Command) → Ascending (freedBy b c)
+pub ascending-freed : (b : Base) (c : Command) → Ascending (freedBy b c)
 unfolding freedBy
 ascending-freed b c = go (settles c)
   where
@@ -78,7 +79,7 @@ start-listing h a = record {
   exact = λ p. (λ m. absurd (among-nil m), λ f. absurd (empty-free p (f .0)));
   ascending = nil;
   rest = refl;
-  alone = λ d p. absurd (d refl)
+  alone = λ d p. absurd (d refl);
 }
   where
     empty-free : (p : ℕ) → Frozen (empty (a .store .base .n) .base) p → ⊥
@@ -93,26 +94,33 @@ module _ (n : ℕ) (h : List Event) (a : Areas) (st : Stands n h (a .store)) (o 
   unfolding changed
   command-listing c ps st′ ls bs li = record {
     exact = λ p. subst (λ (l : List ℕ). Among p l ↔ (Frozen e p × (¬ Reached h′ e p))) (sym ls)
-      (λ m. let x = freed p .0 m in (x .0, λ r. x .1 (reached→kept h′ e wells held p r)), λ x. freed p .1 (x .0, λ k. x .1 (kept→reached h′ e wells held p k)));
+        (λ m. let x = freed p .0 m in (x .0, λ r. x .1 (reached→kept h′ e wells held p r)), λ x. freed p .1 (x .0, λ k. x .1 (kept→reached h′ e wells held p k)));
     ascending = subst Ascending (sym ls) (ascending-freed b c);
     rest = li ∙ (unfold listing in (ap (λ (l : List ℕ). l ++ drop (length l) (a .list)) (sym ls)));
-    alone = λ d p. let x = alone b z base-good c ps p in
-      (λ y. ⊎-elim (λ m. inl (subst (Among p) (sym ls) m)) (λ m. inr (ap does m)) (x .0 (y .0, ap (λ (q : Base). state q p) (sym bs) ∙ y .1)),
-      ⊎-elim (λ m. back (x .1 (inl (subst (Among p) ls m)))) (λ m. back (x .1 (inr (bin-of m)))))
+    alone = λ d p. let x = alone b z base-good c ps p in (
+      λ y. ⊎-elim (λ m. inl (subst (Among p) (sym ls) m)) (λ m. inr (ap does m)) (x .0 (y .0, ap (λ (q : Base). state q p) (sym bs) ∙ y .1)),
+      ⊎-elim (λ m. back (x .1 (inl (subst (Among p) ls m)))) (λ m. back (x .1 (inr (bin-of m)))),
+    );
   }
     where
       z : SizedBase (a .store .base)
       z = st .ok .sized .base
+
       b : Base
       b = a .store .base
+
       e : Base
       e = edit b c
+
       h′ : List Event
       h′ = event (does c) o ∷ h
+
       freed : (p : ℕ) → Among p (freedBy b c) ↔ (Frozen e p × (¬ Kept e p))
       freed p = freed↔ b (st .ok .sized .base) base-good c ps p
+
       wells : (p : ℕ) → p < e .n → Well e p
       wells = edit-well b z base-good c ps
+
       held : (p : ℕ) → p < e .n → holdsOf e p + taken p h′ ≡ added p h′
       held p l =
           let m : p < b .n = subst (λ (x : ℕ). p < x) (edit-n b z base-good c) l in
@@ -121,8 +129,10 @@ module _ (n : ℕ) (h : List Event) (a : Areas) (st : Stands n h (a .store)) (o 
           let y : holdsOf (o .areas .store .base) p ≡ holdsOf (after b c) p = ap (λ (q : Base). holdsOf q p) bs in
           let w = after-same b z base-good c p m in
           omega arith
+
       back : {p : ℕ} → Live b p × (state (after b c) p ≡ 0) → Live b p × (state (o .areas .store .base) p ≡ 0)
       back {p} y = (y .0, ap (λ (q : Base). state q p) bs ∙ y .1)
+
       bin-of : {p : ℕ} → does c ≡ does (Bin p) → c ≡ Bin p
       bin-of m = cc m
 
@@ -130,22 +140,27 @@ module _ (n : ℕ) (h : List Event) (a : Areas) (st : Stands n h (a .store)) (o 
   unfolding acceptedCall cleared changed listed freedIn
   check-listing e st′ = record {
     exact = λ p. subst (λ (l : List ℕ). Among p l ↔ (Frozen b p × (¬ Reached h′ b p))) (sym nothing)
-      (λ m. absurd (among-nil m), λ x. absurd (x .1 (kept→reached h′ b (base-good .wells) held p (base-good .kept p (x .0)))));
+        (λ m. absurd (among-nil m), λ x. absurd (x .1 (kept→reached h′ b (base-good .wells) held p (base-good .kept p (x .0)))));
     ascending = subst Ascending (sym nothing) nil;
     rest = ap (λ (y : Outcome). y .areas .list) e ∙ ap (λ (l : List ℕ). l ++ drop (length l) (a .list)) (sym nothing);
-    alone = λ d p. (λ y. absurd (live-not-free p y), ⊎-elim (λ m. absurd (among-nil (subst (Among p) nothing m))) (λ m. absurd (let w : _≡_ {A = ℕ} 0 1 = cc m in omega arith)))
+    alone = λ d p. (λ y. absurd (live-not-free p y), ⊎-elim (λ m. absurd (among-nil (subst (Among p) nothing m))) (λ m. absurd (let w : _≡_ {A = ℕ} 0 1 = cc m in omega arith)));
   }
     where
       b : Base
       b = a .store .base
+
       h′ : List Event
       h′ = event check o ∷ h
+
       nothing : listed o ≡ []
       nothing = ap listed e
+
       same : o .areas .store ≡ a .store
       same = ap (λ (y : Outcome). y .areas .store) e
+
       held : (p : ℕ) → p < b .n → holdsOf b p + taken p h′ ≡ added p h′
       held p l = let i : p < n = subst (λ (x : ℕ). p < x) (st .size) l in let y : holdsOf (o .areas .store .base) p ≡ holdsOf b p = ap (λ (q : Store). holdsOf (q .base) p) same in let x = st′ .held p i in omega arith
+
       live-not-free : (p : ℕ) → Live b p × (state (o .areas .store .base) p ≡ 0) → ⊥
       live-not-free p y =
           let x : state (o .areas .store .base) p ≡ state b p = ap (λ (q : Store). state (q .base) p) same in
@@ -159,6 +174,7 @@ demand3 n m h c a o r p t = go c (accepted-judged a c (subst (λ (x : Outcome). 
   where
     st : Stands n h (a .store)
     st = stands n m r
+
     go : (c : Call) → judge a c ≡ accepted → o ≡ outcomeOf a c → Stands n (event c o ∷ h) (o .areas .store) → Listing h c a o
     go start j e st′ = subst (Listing h start a) (sym (e ∙ accepted-outcome a start j)) (start-listing h a)
     go (does c) j e st′ =

@@ -41,10 +41,13 @@ module _ (b : Base) (z : SizedBase b) (g : Good b) where
     where
       turns : Bool
       turns = isDraft b p & reaches b q p
+
       at : state (freezeFirst b q) p ≡ pick turns 2 (state b p)
       at = unfold freezeFirst state in (getD-table (λ r. pick (isDraft b r & reaches b q r) 2 (state b r)) (b .n) p 0 h)
+
       more : state (oneMore b q) p ≡ state b p
       more = unfold oneMore withHolds state in refl
+
       go : (x : Bool) → ((state (pick x (oneMore b q) (freezeFirst b q)) p ≡ 2) × Draft b p) ⊎ (state (pick x (oneMore b q) (freezeFirst b q)) p ≡ state b p)
       go true = inr more
       go false = ⊎-elim (λ t. inl (at ∙ pick-true turns 2 (state b p) t, isDraft→ b p h (and-left (isDraft b p) (reaches b q p) t))) (λ t. inr (at ∙ pick-false turns 2 (state b p) t)) (T-dec turns)
@@ -69,8 +72,8 @@ module _ (b : Base) (z : SizedBase b) (g : Good b) where
   edit-live (Acquire q) c p h e = inr (record { below = h; is = unfold state in e })
   edit-live (Release q) c p h e = inr (record { below = h; is = unfold state in e })
   edit-live (Bin q) c p h e = ⊎-elim
-    (λ t. absurd (let x = state-freeAll b (eqb q) p h ∙ pick-true (eqb q p) 0 (state b p) t in omega arith))
-    (λ t. inr (record { below = h; is = sym (state-freeAll b (eqb q) p h ∙ pick-false (eqb q p) 0 (state b p) t) ∙ e })) (T-dec (eqb q p))
+      (λ t. absurd (let x = state-freeAll b (eqb q) p h ∙ pick-true (eqb q p) 0 (state b p) t in omega arith))
+      (λ t. inr (record { below = h; is = sym (state-freeAll b (eqb q) p h ∙ pick-false (eqb q p) 0 (state b p) t) ∙ e })) (T-dec (eqb q p))
   edit-live (Look q) c p h e = inr (record { below = h; is = e })
 
   e-below : (c : Command) (p : ℕ) → p < b .n → p < edit b c .n
@@ -83,8 +86,10 @@ module _ (b : Base) (z : SizedBase b) (g : Good b) where
     where
       h : p < b .n
       h = ⊎-elim (λ d. d .below) (λ d. d .below) l
+
       back : state (edit b c) p ≡ 0 → c ≡ Bin p
       back x = ⊎-elim (λ y. absurd (⊎-elim (λ d. let w = d .is in omega arith) (λ d. let w = d .is in omega arith) l)) (λ y. y) (edit-free c ps p h x)
+
       go : (x : Bool) → state (pick x (freeAll (edit b c) (gone (edit b c))) (edit b c)) p ≡ 0 → Among p (pick x (goneList (edit b c)) []) ⊎ (c ≡ Bin p)
       go true y =
           let w = state-freeAll (edit b c) (gone (edit b c)) p (e-below c p h) in

@@ -34,10 +34,13 @@ module _ (b : Base) where
     where
       x : Leader b p (leaderOf b p)
       x = leaderOf-is b p f
+
       y : Leader b q (leaderOf b q)
       y = leaderOf-is b q g
+
       to : leaderOf b p ≡ leaderOf b q → Reaches b p q × Reaches b q p
       to e = (trans (x .member .there) (subst (λ (l : ℕ). Reaches b l q) (sym e) (y .member .back)), trans (y .member .there) (subst (λ (l : ℕ). Reaches b l p) e (x .member .back)))
+
       from : Reaches b p q × Reaches b q p → leaderOf b p ≡ leaderOf b q
       from r = leader-one b q (leaderOf b p) (leaderOf b q) (leader-shared f (record { frozen = g; there = r .0; back = r .1 }) x) y
 

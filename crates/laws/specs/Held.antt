@@ -63,11 +63,13 @@ module _ (b : Base) (z : SizedBase b) (g : Good b) where
     where
       m : q < b .n
       m = below-of b z g q (c .number)
+
       was : T (isFrozen b q) → holdsOf (pick (isFrozen b q) (oneMore b q) (freezeFirst b q)) p + 0 ≡ holdsOf b p + onlyIf (eqb q p) 1
       was t =
           let e = ap (λ (x : Base). holdsOf x p) (pick-true (isFrozen b q) (oneMore b q) (freezeFirst b q) t) in
           let x = more q p (holdsOf (oneMore b q) p) (holdsOf b q + 1) (unfold holdsOf in (set-holds q p (holdsOf b q + 1) m)) refl in
           omega arith
+
       draft : T (not (isFrozen b q)) → holdsOf (pick (isFrozen b q) (oneMore b q) (freezeFirst b q)) p + 0 ≡ holdsOf b p + onlyIf (eqb q p) 1
       draft t =
           let e = ap (λ (x : Base). holdsOf x p) (pick-false (isFrozen b q) (oneMore b q) (freezeFirst b q) t) in
@@ -87,10 +89,10 @@ module _ (b : Base) (z : SizedBase b) (g : Good b) where
       let x = holds-freeAll b (eqb q) p h in
       ⊎-elim
       (λ t.
-        let y = pick-true (eqb q p) 0 (holdsOf b p) t in
-        let d = draft-holds q (below-of b z g q (c .number)) (c .free) (c .state) in
-        let e : holdsOf b q ≡ holdsOf b p = ap (holdsOf b) (eqb→eq q p t) in
-        omega arith)
+      let y = pick-true (eqb q p) 0 (holdsOf b p) t in
+      let d = draft-holds q (below-of b z g q (c .number)) (c .free) (c .state) in
+      let e : holdsOf b q ≡ holdsOf b p = ap (holdsOf b) (eqb→eq q p t) in
+      omega arith)
       (λ t. let y = pick-false (eqb q p) 0 (holdsOf b p) t in omega arith) (T-dec (eqb q p))
   edit-holds (Look q) c p h = refl
 
@@ -112,8 +114,10 @@ module _ (b : Base) (z : SizedBase b) (g : Good b) where
     where
       e : Base
       e = edit b c
+
       m : p < e .n
       m = subst (λ (x : ℕ). p < x) (sym (edit-n b z g c)) h
+
       go : (x : Bool) → holdsOf (pick x (freeAll e (gone e)) e) p ≡ holdsOf e p
       go true = holds-freeAll e (gone e) p m ∙ ⊎-elim (λ t. pick-true (gone e p) 0 (holdsOf e p) t ∙ sym (gone-holds e p m t)) (λ t. pick-false (gone e p) 0 (holdsOf e p) t) (T-dec (gone e p))
       go false = refl

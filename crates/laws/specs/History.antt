@@ -52,8 +52,10 @@ refused-quiet p c o t = not-T (givesOut p (event c o) or starts (event c o)) (λ
     value (answered (Refused r)) t u = unfold hasValue in (absurd u)
     value (saw s) t u = unfold hasValue in (absurd u)
     value (checked s) t u = unfold hasValue in (absurd u)
+
     gives : T (givesOut p (event c o)) → ⊥
     gives u = unfold givesOut in (value (o .reply) t (and-right (commands isNew c) (hasValue p (o .reply)) u))
+
     begins : T (starts (event c o)) → ⊥
     begins u = T-not (isAccepted (o .reply)) t (unfold starts in (and-right (isStart c) (isAccepted (o .reply)) u))
 
@@ -91,7 +93,7 @@ unfolding acceptedCall cleared
 start-stands n m h a e = record {
   ok = empty-ok (a .store .base .n) (subst (λ (x : ℕ). x ≤ most) (sym e) m);
   size = unfold empty in e;
-  held = λ p l. anew-held p (holdsOf (empty (a .store .base .n) .base) p) (event start (acceptedCall (cleared a start) start)) h (anew p) (empty-holds (a .store .base .n) p (subst (λ (y : ℕ). p < y) (sym e) l))
+  held = λ p l. anew-held p (holdsOf (empty (a .store .base .n) .base) p) (event start (acceptedCall (cleared a start) start)) h (anew p) (empty-holds (a .store .base .n) p (subst (λ (y : ℕ). p < y) (sym e) l));
 }
   where
     anew : (p : ℕ) → T (givesOut p (event start (acceptedCall (cleared a start) start)) or starts (event start (acceptedCall (cleared a start) start)))
@@ -113,14 +115,17 @@ module _ (n : ℕ) (h : List Event) (s : Store) (st : Stands n h s) (o : Outcome
     where
       begins : T (starts (event (does c) o)) → ⊥
       begins u = unfold starts in u
+
       silent : T (not (givesOut p (event (does c) o) or starts (event (does c) o)))
       silent = not-T (givesOut p (event (does c) o) or starts (event (does c) o)) (λ u. ⊎-elim (λ x. T-not (givesOut p (event (does c) o)) q x) begins (or-cases (givesOut p (event (does c) o)) (starts (event (does c) o)) u))
+
       one : (f : Command → Bool) → acceptedOf f (event (does c) o) ≡ f c
       one f = unfold acceptedOf commands in (go (isAccepted (o .reply)) t)
         where
           go : (b : Bool) → T b → (b & f c) ≡ f c
           go true t = refl
           go false t = absurd t
+
       same : holdsOf (after (s .base) c) p + onlyIf (acceptedOf (takesFrom p) (event (does c) o)) 1 ≡ holdsOf (s .base) p + onlyIf (acceptedOf (addsTo p) (event (does c) o)) 1
       same =
           ap (λ (b : Bool). holdsOf (after (s .base) c) p + onlyIf b 1) (one (takesFrom p))
@@ -166,7 +171,7 @@ module _ (n : ℕ) (h : List Event) (s : Store) (st : Stands n h s) (o : Outcome
   command-stands c ps r t e = subst (Stands n (event (does c) o ∷ h)) (sym e) (record {
     ok = next-ok s c (st .ok) ps;
     size = unfold nextStore finish in (after-n (s .base) (st .ok .sized .base) base-good c ∙ st .size);
-    held = λ p l. unfold nextStore finish in (command-held c ps r t p l)
+    held = λ p l. unfold nextStore finish in (command-held c ps r t p l);
   })
 
   -- a call that is refused, or a check, leaves all as it was
@@ -175,12 +180,13 @@ module _ (n : ℕ) (h : List Event) (s : Store) (st : Stands n h s) (o : Outcome
     ok = st .ok;
     size = st .size;
     held = λ p l. on-held p (holdsOf (s .base) p) (holdsOf (s .base) p) (event c o) h (q p)
-      (ap (λ (x : ℕ). holdsOf (s .base) p + x) (zero-of (takesFrom p)) ∙ sym (ap (λ (x : ℕ). holdsOf (s .base) p + x) (zero-of (addsTo p)))) (st .held p l)
+        (ap (λ (x : ℕ). holdsOf (s .base) p + x) (zero-of (takesFrom p)) ∙ sym (ap (λ (x : ℕ). holdsOf (s .base) p + x) (zero-of (addsTo p)))) (st .held p l);
   }
     where
       off : (b : Bool) → T (not b) → onlyIf b 1 ≡ 0
       off true t = absurd t
       off false t = refl
+
       zero-of : (f : Command → Bool) → onlyIf (acceptedOf f (event c o)) 1 ≡ 0
       zero-of f = off (acceptedOf f (event c o)) (a f)
 

@@ -113,6 +113,7 @@ module _ (n : ℕ) (at : ℕ → ℕ → ℕ) (t : ℕ) where
     where
       below : p < length m
       below = subst (λ (k : ℕ). p < k) (length-widenFrom at 0 m m) (marked-below (widenFrom at 0 m m) p h)
+
       go : T (getD m p false) ⊎ T (hit at m (0 + p)) → Reach n at p t
       go (inl u) = r p u
       go (inr u) =
@@ -124,7 +125,7 @@ module _ (n : ℕ) (at : ℕ → ℕ → ℕ) (t : ℕ) where
             to = subst (λ (k : ℕ). q < k) e (marked-below m q (w .2));
             place = w .0;
             inside = w .1;
-            names = ap (λ (x : ℕ). at x (w .0)) (sym (zero-add p))
+            names = ap (λ (x : ℕ). at x (w .0)) (sym (zero-add p));
           }) (r q (w .2))
 
   close-right : (k : ℕ) (m : List Bool) → length m ≡ n → Right m → Right (close at k m)
@@ -146,6 +147,7 @@ start-right n t p h = go (ℕ-discrete p t)
   where
     none : (k : ℕ) → T (getD (replicate n false) k false) → ⊥
     none k u = subst T (getD-replicate n k false false (subst (λ (j : ℕ). k < j) (length-replicate n false) (marked-below (replicate n false) k u))) u
+
     go : Dec (p ≡ t) → p ≡ t
     go (yes e) = e
     go (no d) = absurd (none p (subst T (getD-set-other (replicate n false) t p true false d) h))

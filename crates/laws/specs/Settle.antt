@@ -66,7 +66,7 @@ module _ (e : Base) (f : ℕ → Bool) where
   freed-well p h t = record {
     is = state-freeAll p h ∙ pick-true (f p) 0 (state e p) t;
     links = λ k i. link-freeAll p k h i ∙ pick-true (f p) none (linkAt e p k) t;
-    holds = holds-freeAll p h ∙ pick-true (f p) 0 (holdsOf e p) t
+    holds = holds-freeAll p h ∙ pick-true (f p) 0 (holdsOf e p) t;
   }
 
   -- one that is not freed is well, if no piece that it names is freed
@@ -74,12 +74,12 @@ module _ (e : Base) (f : ℕ → Bool) where
   kept-well p h t n (wfree w) = wfree (record {
     is = state-kept p h t ∙ w .is;
     links = λ k i. link-kept p k h i t ∙ w .links k i;
-    holds = holds-kept p h t ∙ w .holds
+    holds = holds-kept p h t ∙ w .holds;
   })
   kept-well p h t n (wdraft w) = wdraft (record {
     is = state-kept p h t ∙ w .is;
     links = λ k i. subst (λ (x : ℕ). (x ≡ none) ⊎ Live (freeAll e f) x) (sym (link-kept p k h i t)) (go k i (w .links k i));
-    holds = holds-kept p h t ∙ w .holds
+    holds = holds-kept p h t ∙ w .holds;
   })
     where
       go : (k : ℕ) → k < 4 → (linkAt e p k ≡ none) ⊎ Live e (linkAt e p k) → (linkAt e p k ≡ none) ⊎ Live (freeAll e f) (linkAt e p k)
@@ -89,7 +89,7 @@ module _ (e : Base) (f : ℕ → Bool) where
   kept-well p h t n (wfrozen w) = wfrozen (record {
     is = state-kept p h t ∙ w .is;
     links = λ k i. subst (λ (x : ℕ). (x ≡ none) ⊎ Frozen (freeAll e f) x) (sym (link-kept p k h i t)) (⊎-elim (λ x. inl x) (λ d. inr (frozen-kept (linkAt e p k) (n k i (inr d)) d)) (w .links k i));
-    holds = subst (λ (x : ℕ). x ≤ 1000) (sym (holds-kept p h t)) (w .holds)
+    holds = subst (λ (x : ℕ). x ≤ 1000) (sym (holds-kept p h t)) (w .holds);
   })
 
 -- ---- settling
@@ -116,9 +116,11 @@ module _ (e : Base) (most : e .n ≤ 1024) (wells : (p : ℕ) → p < e .n → W
     where
       self : Kept e (k .root)
       self = record { root = k .root; is = k .is; reached = here }
+
       root : Root e (k .root) → Root (freeAll e (gone e)) (k .root)
       root (inl d) = inl (draft-kept e (gone e) (k .root) (not-gone (k .root) self) d)
       root (inr g) = inr (frozen-kept e (gone e) (k .root) (not-gone (k .root) self) (g .0), subst (λ (x : ℕ). 0 < x) (sym (holds-kept e (gone e) (k .root) (g .0 .below) (not-gone (k .root) self))) (g .1))
+
       on : (a b : ℕ) → Kept e a → Link (e .n) (linkAt e) a b → Link (freeAll e (gone e) .n) (linkAt (freeAll e (gone e))) a b × Kept e b
       on a b ka l = (
         record { from = l .from; to = l .to; place = l .place; inside = l .inside; names = link-kept e (gone e) a (l .place) (l .from) (l .inside) (not-gone a ka) ∙ l .names },
@@ -138,5 +140,5 @@ module _ (e : Base) (most : e .n ≤ 1024) (wells : (p : ℕ) → p < e .n → W
   unfolding freeAll
   settled-good = record {
     wells = λ p h. ⊎-elim (λ g. wfree (freed-well e (gone e) p h g)) (λ g. kept-well e (gone e) p h g (names-stay p h g (wells p h)) (wells p h)) (T-dec (gone e p));
-    kept = λ p f. ⊎-elim (λ g. absurd (let a = freed-well e (gone e) p (f .below) g .is in let c = f .is in omega arith)) (λ g. settled-kept p (frozen-left p (f .below) (→isFrozen e p (sym (state-kept e (gone e) p (f .below) g) ∙ f .is)) g)) (T-dec (gone e p))
+    kept = λ p f. ⊎-elim (λ g. absurd (let a = freed-well e (gone e) p (f .below) g .is in let c = f .is in omega arith)) (λ g. settled-kept p (frozen-left p (f .below) (→isFrozen e p (sym (state-kept e (gone e) p (f .below) g) ∙ f .is)) g)) (T-dec (gone e p));
   }

@@ -19,7 +19,6 @@ use Rattle.rules.specs.Reach.{Reach, here, chain, Link, reachb}
 use Rattle.laws.specs.Reach.{reachb→Reach, Reach→reachb, reachb-below}
 use Rattle.rules.specs.Tables.{Base, Store, state, isFree, isDraft, isFrozen, isLive, linkAt, holdsOf, reaches, inGroup, leaderOf, countOf, isRoot, isKept, leaderEntry, countEntry, finish, allFour, wellFree, wellDraft, wellFrozen, well, soundAt, isSound}
 use Rattle.rules.specs.Words.{Draft, Frozen, Live, Reaches, Group, Leader, Root, Kept, FreeWell, DraftWell, FrozenWell, Well, wfree, wdraft, wfrozen, leaderAt, countAt, CountRight, Piece, free, draft, frozen, Sound, SizedBase, Sized}
-
 use Rattle.laws.specs.Words.{eqb-of, neqb-of, trans, isDraft→, →isDraft, isFrozen→, →isFrozen, not-frozen, leaderOf-is, leader-one, isKept→, →isKept}
 
 module _ (b : Base) where
@@ -108,7 +107,7 @@ module _ (b : Base) where
       record {
         is = eqb→eq (state b p) 1 (s .0);
         links = λ k h. none-or→ (linkAt b p k) (isLive b) (Live b) (isLive→ (linkAt b p k)) (allFour→ p (λ x. eqb x none or ltb x (b .n) & isLive b x) (s .1) k h);
-        holds = eqb→eq (holdsOf b p) 0 (s .2)
+        holds = eqb→eq (holdsOf b p) 0 (s .2);
       }
 
   →wellDraft : (p : ℕ) → DraftWell b p → T (wellDraft b p)
@@ -125,7 +124,7 @@ module _ (b : Base) where
       record {
         is = eqb→eq (state b p) 2 (s .0);
         links = λ k h. none-or→ (linkAt b p k) (isFrozen b) (Frozen b) (isFrozen→ b (linkAt b p k)) (allFour→ p (λ x. eqb x none or ltb x (b .n) & isFrozen b x) (s .1) k h);
-        holds = leb→le (holdsOf b p) 1000 (s .2)
+        holds = leb→le (holdsOf b p) 1000 (s .2);
       }
 
   →wellFrozen : (p : ℕ) → FrozenWell b p → T (wellFrozen b p)
@@ -170,6 +169,7 @@ module _ (s : Store) where
     where
       e : leaderAt s p ≡ leaderOf (s .base) p
       e = leader-one (s .base) p (leaderAt s p) (leaderOf (s .base) p) l (leaderOf-is (s .base) p (record { below = h; is = w .is }))
+
       go : Dec (leaderAt s p ≡ p) → countAt s p ≡ countEntry (s .base) p
       go (yes x) = c .leads x ∙ sym (countEntry-leads (s .base) p (w .is) (sym e ∙ x))
       go (no x) = c .others x ∙ sym (countEntry-led (s .base) p (λ y. x (e ∙ y)))
@@ -178,7 +178,7 @@ module _ (s : Store) where
   sound→entries sd = record {
     good = record { wells = λ p h. sound→entry p h (sd p h) .0; kept = λ p f. sound→entry p (f .below) (sd p (f .below)) .3 f };
     leaders = λ p h. sound→entry p h (sd p h) .1;
-    counts = λ p h. sound→entry p h (sd p h) .2
+    counts = λ p h. sound→entry p h (sd p h) .2;
   }
 
   entry→sound : (p : ℕ) → p < s .base .n → Well (s .base) p → leaderAt s p ≡ leaderEntry (s .base) p → countAt s p ≡ countEntry (s .base) p → (Frozen (s .base) p → Kept (s .base) p) → Piece s p
@@ -228,9 +228,11 @@ module _ (s : Store) where
     where
       e : Entries
       e = sound→entries sd
+
       l : s .leaders ≡ table (leaderEntry (s .base)) (s .base .n)
       l = ext-getD 0 (s .leaders) (table (leaderEntry (s .base)) (s .base .n)) (z .leaders ∙ sym (length-table (leaderEntry (s .base)) (s .base .n)))
           (λ i h. let g = subst (λ (x : ℕ). i < x) (z .leaders) h in e .leaders i g ∙ sym (getD-table (leaderEntry (s .base)) (s .base .n) i 0 g))
+
       c : s .counts ≡ table (countEntry (s .base)) (s .base .n)
       c = ext-getD 0 (s .counts) (table (countEntry (s .base)) (s .base .n)) (z .counts ∙ sym (length-table (countEntry (s .base)) (s .base .n)))
           (λ i h. let g = subst (λ (x : ℕ). i < x) (z .counts) h in e .counts i g ∙ sym (getD-table (countEntry (s .base)) (s .base .n) i 0 g))
@@ -243,5 +245,5 @@ finish-sound b g =
     (record {
       good = g;
       leaders = λ p h. getD-table (leaderEntry b) (b .n) p 0 h;
-      counts = λ p h. getD-table (countEntry b) (b .n) p 0 h
+      counts = λ p h. getD-table (countEntry b) (b .n) p 0 h;
     })

@@ -101,8 +101,10 @@ any-list c s r s′ l off d = record { exact = ap (λ (e : Effect). effect (e .r
   where
     nothing : freedBy (s .base) c ≡ []
     nothing = unfold freedBy in (ap (λ (t : Bool). pick t (goneList (edit (s .base) c)) []) off)
+
     listed : l ≡ listing (freedBy (s .base) c) l
     listed = unfold listing in (ap (λ (f : List ℕ). f ++ drop (length f) l) (sym nothing))
+
     go : (v : Verdict) → effect (effected s [] c v .reply) (effected s [] c v .store) l ≡ effected s l c v
     go accepted = unfold effected in (ap (effect (acceptedBy s c) (nextStore s c)) listed)
     go (refused r) = unfold effected in refl

@@ -78,7 +78,7 @@ module _ (b : Base) where
       record {
         frozen = isFrozen→ q (below back) (and-left (isFrozen b q) (reaches b p q & reaches b q p) t);
         there = reaches→ p q (and-left (reaches b p q) (reaches b q p) u);
-        back = reaches→ q p back
+        back = reaches→ q p back;
       }
     where
       below : T (reaches b q p) → q < b .n
@@ -127,7 +127,7 @@ module _ (b : Base) where
       record {
         root = w .0;
         is = isRoot→ (w .0) (w .1) (and-left (isRoot b (w .0)) (reaches b (w .0) p) (w .2));
-        reached = reaches→ (w .0) p (and-right (isRoot b (w .0)) (reaches b (w .0) p) (w .2))
+        reached = reaches→ (w .0) p (and-right (isRoot b (w .0)) (reaches b (w .0) p) (w .2));
       }
 
   pub kept-below : (p : ℕ) → Kept b p → p < b .n

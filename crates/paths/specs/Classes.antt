@@ -1,15 +1,14 @@
 -- Where every piece is well: what leaves the frozen pieces, or the drafts, does not come back; and a lead among frozen pieces is 01's leader.
-use mathlib.Core.Path.{_≡_, refl, sym, _∙_, ap, subst}
+use mathlib.Core.Path.{_≡_, sym, _∙_, subst}
 use mathlib.Core.Logic.{_⊎_, inl, inr, ⊎-elim}
-use Prim.Native.Nat.{ℕ, _+_, _*_, _≤_, _<_}
+use Prim.Native.Nat.{ℕ, _≤_, _<_}
 use native.Mathlib.Omega.{arith}
-use lib.ListN.{getD}
 use Rattle.rules.specs.Limits.{most, none}
-use Rattle.rules.specs.Reach.{Link, Reach, here, chain}
+use Rattle.rules.specs.Reach.{Link, here, chain}
 use Rattle.rules.specs.Tables.{Base, state, linkAt}
-use Rattle.rules.specs.Words.{Draft, Frozen, Live, Reaches, Group, Leader, FreeWell, DraftWell, FrozenWell, Well, wfree, wdraft, wfrozen}
+use Rattle.rules.specs.Words.{Frozen, Reaches, Leader, Well, wfree, wdraft, wfrozen}
 use Rattle.laws.specs.Words.{end-below}
-use Rattle.paths.specs.Ground.{Ground, ground, Step, Way, Closed, Lead, named, _!_}
+use Rattle.paths.specs.Ground.{ground, Closed, Lead, named}
 
 module _ (b : Base) (small : b .n ≤ most) (wells : (p : ℕ) → p < b .n → Well b p) where
   no-link : {p q : ℕ} → Link (b .n) (linkAt b) p q → (t : ℕ) → t ≡ q → t ≡ none → ⊥

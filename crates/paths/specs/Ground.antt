@@ -1,11 +1,10 @@
 -- The ground of a search: the pieces below n, what their places name, and a class of pieces by state.
 use mathlib.Core.Path.{_≡_, sym, subst}
 use mathlib.Core.List.{List}
-use Prim.Native.Nat.{ℕ, _+_, _*_, _≤_, _<_}
+use Prim.Native.Nat.{ℕ, _+_, _*_, _≤_}
 use native.Mathlib.Omega.{arith}
 use lib.ListN.{getD}
 use Rattle.rules.specs.Reach.{Link, Reach, here, chain}
-use Rattle.laws.specs.Words.{trans}
 
 infixl 90 _!_
 abbrev pub _!_ : List ℕ → ℕ → ℕ

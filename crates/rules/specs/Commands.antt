@@ -131,7 +131,7 @@ module _ (b : Base) where
     n = b .n;
     states = table (λ p. pick (f p) 0 (state b p)) (b .n);
     links = table (λ j. pick (f (j / 4)) none (getD (b .links) j 0)) (4 * b .n);
-    holds = table (λ p. pick (f p) 0 (holdsOf b p)) (b .n)
+    holds = table (λ p. pick (f p) 0 (holdsOf b p)) (b .n);
   }
 
   -- every frozen piece no longer kept
@@ -152,7 +152,7 @@ module _ (b : Base) where
     n = b .n;
     states = table (λ q. pick (isDraft b q & reaches b p q) 2 (state b q)) (b .n);
     links = b .links;
-    holds = set (b .holds) p 1
+    holds = set (b .holds) p 1;
   }
 
   -- what an accepted command does to states, links and holds, before what is no longer kept is freed:

@@ -122,5 +122,5 @@ unfoldable pub empty : ℕ → Store
 empty n = record {
   base = record { n = n; states = replicate n 0; links = replicate (4 * n) none; holds = replicate n 0 };
   leaders = replicate n none;
-  counts = replicate n 0
+  counts = replicate n 0;
 }

@@ -4,7 +4,6 @@ use Prim.Native.Nat.{ℕ}
 
 infixr 30 _&_
 infixr 25 _or_
-
 abbrev pub _&_ : Bool → Bool → Bool
 _&_ true b = b
 _&_ false b = false

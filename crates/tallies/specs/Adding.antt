@@ -1,24 +1,23 @@
--- What the functions of `heart` require and ensure, and their loops' steps.
-use mathlib.Core.Path.{_≡_, refl, sym, ap, ap₂, _∙_, subst}
-use mathlib.Core.Logic.{_⊎_, inl, inr, ⊎-elim}
-use mathlib.Core.Bool.{Bool, true, false, not}
-use mathlib.Core.List.{List, [], _∷_, _++_}
-use Prim.Native.Nat.{ℕ, zero, suc, _+_, _-_, _*_, _/_, _%_, _≤_, _<_}
+-- Counting up: the holds of the pieces passed, then the places passed, are added to the counts of their labels.
+use mathlib.Core.Path.{_≡_, refl, sym, ap, _∙_}
+use mathlib.Core.Logic.{_⊎_, ⊎-elim}
+use mathlib.Core.List.{List}
+use Prim.Native.Nat.{ℕ, _+_, _-_, _*_, _/_, _≤_, _<_}
 use native.Mathlib.Omega.{arith}
 use lib.Dec.{eqb}
-use lib.ListN.{getD, length, set, length-set, drop}
-use lib.Seq.{getD-set-same, getD-set-other, drop-set-lt}
+use lib.ListN.{length, set, length-set, drop}
+use lib.Seq.{drop-set-lt}
 use borrow.Author.Tests.{eq-eqb, ne-eqb}
 use Rattle.rules.specs.Limits.{none}
 use Rattle.rules.specs.Below.{sum}
-use Rattle.rules.specs.Tests.{onlyIf}
 use Rattle.laws.specs.Below.{sum-next}
-use Rattle.tallies.specs.Sums.{eq-or, lt-or, set-cases, getD-any, onlyIf-true, onlyIf-false, onlyIf-most}
+use Rattle.tallies.specs.Sums.{set-cases, getD-any, onlyIf-true, onlyIf-false, onlyIf-most}
 use Rattle.laws.specs.Counts.{sum-most}
 use Rattle.tallies.specs.Tally.{_!_, label, cross, held, placed, tally, CountsMatch}
 use Rattle.tallies.specs.Moves.{cross-in, cross-off, cross-on, cross-most}
 use Rattle.tallies.specs.Exact.{label-past}
 
+-- each piece has a label, and each label a count
 pub record Labelled (n : ℕ) (leaders counts : List ℕ) : Type 0 where
   pub small : n ≤ 1024
   pub leaders-n : length leaders ≡ n
@@ -36,6 +35,7 @@ pub record LinksAdded (n : ℕ) (links leaders counts₀ : List ℕ) (i : ℕ) (
   pub sums : (l : ℕ) → l < n → counts ! l ≡ counts₀ ! l + sum (placed links leaders l) i
   pub later : drop n counts ≡ drop n counts₀
 
+-- the counts of all labels; later entries are as they were
 pub record Tallied (n : ℕ) (links holds leaders counts₀ counts : List ℕ) : Type 0 where
   pub size : length counts ≡ length counts₀
   pub matches : CountsMatch n links holds leaders counts
@@ -55,7 +55,7 @@ module _ (n : ℕ) (holds leaders counts₀ : List ℕ) (z : Labelled n leaders 
     holds-miss h = record {
       size = a .size;
       sums = λ l u. omega (arith, a .sums l u, sum-next (held holds leaders l) q, onlyIf-false _ (holds ! q) (ne-eqb (label leaders q) l (λ e. omega (arith, label-q))));
-      later = a .later
+      later = a .later;
     }
 
     pub holds-hit : (l : ℕ) → l ≡ leaders ! q → l < n → HoldsAdded n holds leaders counts₀ (q + 1) (set counts l (counts ! l + holds ! q))
@@ -67,7 +67,7 @@ module _ (n : ℕ) (holds leaders counts₀ : List ℕ) (z : Labelled n leaders 
           (λ w. omega (arith, w .1, w .0, ap (λ (y : ℕ). sum (held holds leaders y) q) (w .0), a .sums l h, sum-next (held holds leaders j) q, onlyIf-true _ (holds ! q) (eq-eqb (label leaders q) j (label-q ∙ sym e ∙ sym (w .0)))))
           (λ w. omega (arith, w .1, a .sums j u, sum-next (held holds leaders j) q, onlyIf-false _ (holds ! q) (ne-eqb (label leaders q) j (λ y. w .0 (sym y ∙ label-q ∙ sym e)))))
           (set-cases counts l (counts ! l + holds ! q) j 0 (omega (arith, a .size, z .counts-n)));
-      later = drop-set-lt n counts l (counts ! l + holds ! q) h ∙ a .later
+      later = drop-set-lt n counts l (counts ! l + holds ! q) h ∙ a .later;
     }
 
     -- the sum so far, where holds are 16 bits wide
@@ -113,7 +113,7 @@ module _ (n : ℕ) (links leaders counts₀ : List ℕ) (z : Labelled n leaders 
           (λ w. omega (arith, w .1, ap (λ (y : ℕ). counts₀ ! y + sum (placed links leaders y) i) (w .0), a .sums l h, sum-next (placed links leaders j) i, cross-on leaders j i (links ! i) (target-at t ∙ sym e ∙ sym (w .0)) (λ y. o (sym (w .0) ∙ sym y ∙ owner-at))))
           (λ w. omega (arith, w .1, a .sums j u, sum-next (placed links leaders j) i, cross-off leaders j i (links ! i) (λ y. w .0 (sym y ∙ target-at t ∙ sym e))))
           (set-cases counts l (counts ! l + 1) j 0 (omega (arith, a .size, z .counts-n)));
-      later = drop-set-lt n counts l (counts ! l + 1) h ∙ a .later
+      later = drop-set-lt n counts l (counts ! l + 1) h ∙ a .later;
     }
 
     pub links-fit : (l : ℕ) → l < n → counts₀ ! l ≤ 67107840 → counts ! l ≤ 67111936

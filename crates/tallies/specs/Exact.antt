@@ -1,26 +1,26 @@
 -- Labels that are the groups' leaders: the counts by label are document 01's counts.
 use mathlib.Core.Path.{_≡_, refl, sym, ap, ap₂, _∙_, subst}
-use mathlib.Core.Logic.{_⊎_, inl, inr, ⊎-elim, _≢_}
+use mathlib.Core.Logic.{_⊎_, ⊎-elim}
 use mathlib.Core.Bool.{Bool, true, false, not}
 use mathlib.Core.List.{List}
 use Prim.Native.Nat.{ℕ, zero, suc, _+_, _-_, _*_, _/_, _≤_, _<_}
 use native.Mathlib.Omega.{arith}
-use lib.Dec.{T, T-not, not-T, eqb, eqb→eq}
-use lib.ListN.{getD, length, List·getD-eq-default}
-use borrow.Author.Tests.{eq-eqb, ne-eqb, eqb-true}
+use lib.Dec.{T, not-T, eqb, eqb→eq}
+use lib.ListN.{length, List·getD-eq-default}
+use borrow.Author.Tests.{ne-eqb}
 use Rattle.rules.specs.Tests.{_&_, _or_, onlyIf}
 use Rattle.rules.specs.Limits.{none}
 use Rattle.rules.specs.Below.{sum}
-use Rattle.rules.specs.Reach.{Reach, here, chain, Link}
 use Rattle.rules.specs.Tables.{Base, state, isDraft, isFrozen, isLive, linkAt, holdsOf, inGroup, leaderOf, places, countOf, countEntry}
-use Rattle.rules.specs.Words.{Draft, Frozen, Live, Reaches, Group, Leader, FreeWell, Well, wfree, wdraft, wfrozen}
-use Rattle.laws.specs.Words.{trans, eqb-of, inGroup→, →inGroup, →isDraft, →isFrozen, isFrozen→, leaderOf-is, leader-one, not-frozen}
+use Rattle.rules.specs.Words.{Frozen, Group, Leader, FreeWell, Well, wfree, wdraft, wfrozen}
+use Rattle.laws.specs.Words.{trans, eqb-of, inGroup→, →inGroup, isFrozen→, leaderOf-is, leader-one}
 use Rattle.laws.specs.Sound.{countEntry-leads, countEntry-led, countEntry-other}
-use Rattle.tallies.specs.Sums.{eq-or, lt-or, sum-cong, onlyIf-pos, onlyIf-false, onlyIf-true}
+use Rattle.tallies.specs.Sums.{eq-or, lt-or, sum-cong, onlyIf-false}
 use Rattle.laws.specs.Counts.{sum-pos}
-use Rattle.tallies.specs.Tally.{_!_, label, cross, held, placed, tally, CountsMatch}
-use Rattle.tallies.specs.Moves.{cross-off, cross-in, cross-pos}
+use Rattle.tallies.specs.Tally.{_!_, label, cross, held, placed, tally}
+use Rattle.tallies.specs.Moves.{cross-off}
 
+-- the label of a frozen piece is its leader, and others have none
 pub record Exact (b : Base) (leaders : List ℕ) : Type 0 where
   pub size : length leaders ≡ b .n
   pub most : b .n ≤ 1024
@@ -158,6 +158,7 @@ module _ (b : Base) (leaders : List ℕ) (x : Exact b leaders) where
     where
       nobody : (label leaders L ≡ L → ⊥) → (q : ℕ) → label leaders q ≡ L → ⊥
       nobody d q e = let f = label-frozen q (omega arith) in d (ap (label leaders) (sym e) ∙ label-own q f ∙ e)
+
       frozen : state b L ≡ 2 → tally (b .n) (b .links) (b .holds) leaders L ≡ countEntry b L
       frozen s =
           let f : Frozen b L = record { below = h; is = s } in
@@ -165,6 +166,7 @@ module _ (b : Base) (leaders : List ℕ) (x : Exact b leaders) where
           (λ e. tally-leader L f e ws ∙ sym (countEntry-leads b L s (sym (label-is L f) ∙ e)))
           (λ d. tally-unused L (nobody d) ∙ sym (countEntry-led b L (λ y. d (label-is L f ∙ y))))
           (eq-or (label leaders L) L)
+
       unfrozen : (state b L ≡ 2 → ⊥) → tally (b .n) (b .links) (b .holds) leaders L ≡ countEntry b L
       unfrozen s =
           let e = x .others L h s in

@@ -1,11 +1,11 @@
 -- Exact labels and matching counts are the leaders and counts of the finished store.
-use mathlib.Core.Path.{_≡_, refl, sym, ap, _∙_, subst}
+use mathlib.Core.Path.{_≡_, sym, _∙_, subst}
 use mathlib.Core.Logic.{⊎-elim}
 use mathlib.Core.List.{List}
 use Prim.Native.Nat.{ℕ, _<_}
 use native.Mathlib.Omega.{arith}
-use lib.Dec.{T, not-T}
-use lib.ListN.{getD, length}
+use lib.Dec.{not-T}
+use lib.ListN.{length}
 use lib.Seq.{ext-getD}
 use Rattle.rules.specs.Limits.{none}
 use Rattle.rules.specs.Below.{table}

@@ -1,18 +1,17 @@
 -- What a hold and a link do to the counts, with the labels fixed.
-use mathlib.Core.Path.{_≡_, refl, sym, ap, ap₂, _∙_, subst}
-use mathlib.Core.Logic.{_⊎_, inl, inr, ⊎-elim}
+use mathlib.Core.Path.{_≡_, refl, sym, ap, ap₂, _∙_}
+use mathlib.Core.Logic.{_⊎_, ⊎-elim}
 use mathlib.Core.Bool.{Bool, true, false, not}
 use mathlib.Core.List.{List}
-use Prim.Native.Nat.{ℕ, zero, suc, _+_, _-_, _*_, _/_, _≤_, _<_}
+use Prim.Native.Nat.{ℕ, _+_, _-_, _*_, _/_, _≤_, _<_}
 use native.Mathlib.Omega.{arith}
 use lib.Dec.{eqb}
-use lib.ListN.{getD, length, set, length-set}
+use lib.ListN.{length, set}
 use lib.Seq.{getD-set-same, getD-set-other}
 use borrow.Author.Tests.{eq-eqb, ne-eqb, eqb-true}
 use Rattle.rules.specs.Tests.{_&_, onlyIf}
 use Rattle.rules.specs.Limits.{none}
-use Rattle.rules.specs.Below.{sum}
-use Rattle.tallies.specs.Sums.{eq-or, set-cases, sum-cong, onlyIf-true, onlyIf-false, onlyIf-pos, onlyIf-most}
+use Rattle.tallies.specs.Sums.{set-cases, onlyIf-true, onlyIf-false, onlyIf-pos, onlyIf-most}
 use Rattle.laws.specs.Kept.{sum-term}
 use Rattle.laws.specs.Delta.{sum-change}
 use Rattle.laws.specs.Counts.{sum-most}
@@ -58,17 +57,21 @@ module _ (n : ℕ) (links holds leaders : List ℕ) where
   pub hold-moves : (p h L : ℕ) → p < n → p < length holds → tally n links (set holds p h) leaders L + held holds leaders L p ≡ tally n links holds leaders L + onlyIf (eqb (label leaders p) L) h
   unfolding tally held
   hold-moves p h L lt len =
-      omega (arith,
-      sum-change (held (set holds p h) leaders L) (held holds leaders L) n p lt (λ q _ d. ap (onlyIf (eqb (label leaders q) L)) (getD-set-other holds p q h 0 d)),
-      ap (onlyIf (eqb (label leaders p) L)) (getD-set-same holds p h 0 len))
+      omega (
+        arith,
+        sum-change (held (set holds p h) leaders L) (held holds leaders L) n p lt (λ q _ d. ap (onlyIf (eqb (label leaders q) L)) (getD-set-other holds p q h 0 d)),
+        ap (onlyIf (eqb (label leaders p) L)) (getD-set-same holds p h 0 len),
+      )
 
   -- link place i becomes t
   pub link-moves : (i t L : ℕ) → i < 4 * n → i < length links → tally n (set links i t) holds leaders L + cross leaders L i (links ! i) ≡ tally n links holds leaders L + cross leaders L i t
   unfolding tally placed
   link-moves i t L lt len =
-      omega (arith,
-      sum-change (placed (set links i t) leaders L) (placed links leaders L) (4 * n) i lt (λ q _ d. ap (cross leaders L q) (getD-set-other links i q t 0 d)),
-      ap (cross leaders L i) (getD-set-same links i t 0 len))
+      omega (
+        arith,
+        sum-change (placed (set links i t) leaders L) (placed links leaders L) (4 * n) i lt (λ q _ d. ap (cross leaders L q) (getD-set-other links i q t 0 d)),
+        ap (cross leaders L i) (getD-set-same links i t 0 len),
+      )
 
   -- a place that crosses is counted
   pub link-counts : (i L : ℕ) → i < 4 * n → cross leaders L i (links ! i) ≤ tally n links holds leaders L
@@ -83,9 +86,11 @@ module _ (n : ℕ) (links holds leaders : List ℕ) where
 pub tally-most : (n : ℕ) (links holds leaders : List ℕ) (L : ℕ) → n ≤ 1024 → ((r : ℕ) → r < n → holds ! r ≤ 1000) → tally n links holds leaders L < 1028097
 unfolding tally held placed
 tally-most n links holds leaders L m h =
-    omega (arith,
-    sum-most (held holds leaders L) 1000 n (λ r l. onlyIf-most (eqb (label leaders r) L) (holds ! r) 1000 (h r l)),
-    sum-most (placed links leaders L) 1 (4 * n) (λ i _. cross-most leaders L i (links ! i)))
+    omega (
+      arith,
+      sum-most (held holds leaders L) 1000 n (λ r l. onlyIf-most (eqb (label leaders r) L) (holds ! r) 1000 (h r l)),
+      sum-most (placed links leaders L) 1 (4 * n) (λ i _. cross-most leaders L i (links ! i)),
+    )
 
 -- ---- the counts follow: the four moves
 
@@ -127,10 +132,11 @@ module _ (n : ℕ) (links holds leaders counts : List ℕ) (len : length counts 
       let a : cross leaders M i (links ! i) ≡ 1 = cross-on leaders M i (links ! i) e f in
       let b : cross leaders M i none ≡ 0 = cross-off leaders M i none (λ x. omega arith) in
       let c = link-counts n links holds leaders i M lt in
-      let d = m M lm in
-      (omega arith,
-      matched n links holds leaders counts (set links i none) holds M (counts ! M - 1) len m lm (omega (arith, link-moves n links holds leaders i none M lt l))
-      (λ L k g. omega (arith, link-moves n links holds leaders i none L lt l, cross-off leaders L i (links ! i) (λ x. g (sym x ∙ e)), cross-off leaders L i none (λ x. omega arith))))
+      let d = m M lm in (
+        omega arith,
+        matched n links holds leaders counts (set links i none) holds M (counts ! M - 1) len m lm (omega (arith, link-moves n links holds leaders i none M lt l))
+            (λ L k g. omega (arith, link-moves n links holds leaders i none L lt l, cross-off leaders L i (links ! i) (λ x. g (sym x ∙ e)), cross-off leaders L i none (λ x. omega arith))),
+      )
 
   -- a link that crosses is added, at a place that names no label
   pub match-link : (i t M : ℕ) → i < 4 * n → i < length links → n ≤ 1024 → label leaders (links ! i) ≡ none → label leaders t ≡ M → M < n → (label leaders (i / 4) ≡ M → ⊥)

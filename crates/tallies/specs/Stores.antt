@@ -1,13 +1,12 @@
 -- A sound store: its leaders are exact labels, its counts match, and each leader has one; the labels stay where the frozen pieces and their links do.
-use mathlib.Core.Path.{_≡_, refl, sym, ap, _∙_, subst}
+use mathlib.Core.Path.{_≡_, sym, _∙_, subst}
 use mathlib.Core.Logic.{_⊎_, inl, inr, ⊎-elim}
 use mathlib.Core.List.{List}
-use Prim.Native.Nat.{ℕ, _+_, _*_, _≤_, _<_}
+use Prim.Native.Nat.{ℕ, _≤_, _<_}
 use native.Mathlib.Omega.{arith}
-use lib.Dec.{T, not-T}
-use lib.ListN.{getD, length}
+use lib.Dec.{not-T}
 use Rattle.rules.specs.Limits.{none}
-use Rattle.rules.specs.Tables.{Base, Store, state, isFrozen, linkAt, holdsOf, leaderOf, leaderEntry, countEntry}
+use Rattle.rules.specs.Tables.{Base, Store, isFrozen, linkAt, holdsOf, leaderOf, leaderEntry}
 use Rattle.rules.specs.Reach.{Link}
 use Rattle.rules.specs.Words.{Frozen, Live, Leader, Well, wfree, wdraft, wfrozen}
 use Rattle.rules.specs.Calls.{Ready}
@@ -16,7 +15,7 @@ use Rattle.laws.specs.Sound.{Good, leaderEntry-frozen, leaderEntry-other, count
 use Rattle.laws.specs.Kept.{kept↔counts}
 use Rattle.laws.specs.Delta.{SameFrozen, group-stays}
 use Rattle.tallies.specs.Sums.{getD-any}
-use Rattle.tallies.specs.Tally.{_!_, label, tally, CountsMatch}
+use Rattle.tallies.specs.Tally.{_!_, label, CountsMatch}
 use Rattle.tallies.specs.Moves.{tally-most}
 use Rattle.tallies.specs.Exact.{Exact, tally-entry, label-frozen}
 
@@ -29,7 +28,7 @@ exact-moves a b leaders wa wb ab ba x = record {
       let fa = ba .frozen p f in
       let L = x .leads p fa in
       record { member = group-stays a b wa ab fa (L .member); lowest = λ r g. L .lowest r (group-stays b a wb ba f g) };
-  others = λ p h nf. x .others p (subst (λ (m : ℕ). p < m) (ba .size) h) (λ s. nf (ab .frozen p (record { below = subst (λ (m : ℕ). p < m) (ba .size) h; is = s }) .is))
+  others = λ p h nf. x .others p (subst (λ (m : ℕ). p < m) (ba .size) h) (λ s. nf (ab .frozen p (record { below = subst (λ (m : ℕ). p < m) (ba .size) h; is = s }) .is));
 }
 
 module _ (s : Store) (o : Ready s) where
@@ -50,7 +49,7 @@ module _ (s : Store) (o : Ready s) where
     size = o .sized .leaders;
     most = o .sized .base .most;
     leads = λ p f. subst (Leader b p) (sym (at p (f .below) ∙ leaderEntry-frozen b p (f .is))) (leaderOf-is b p f);
-    others = λ p h nf. at p h ∙ leaderEntry-other b p (not-T (isFrozen b p) (λ t. nf (isFrozen→ b p h t .is)))
+    others = λ p h nf. at p h ∙ leaderEntry-other b p (not-T (isFrozen b p) (λ t. nf (isFrozen→ b p h t .is)));
   }
     where
       at : (p : ℕ) → p < b .n → label (s .leaders) p ≡ leaderEntry b p
@@ -65,6 +64,7 @@ module _ (s : Store) (o : Ready s) where
     where
       some : (P : ℕ → Type 0) → (linkAt b p (l .place) ≡ none) ⊎ P (linkAt b p (l .place)) → P q
       some P = ⊎-elim (λ x. absurd (let y = l .names in let z = l .to in let m = o .sized .base .most in omega arith)) (λ x. subst P (l .names) x)
+
       go : Live b p → Well b p → Live b q
       go (inl d) (wfree w) = absurd (let x = d .is in let y = w .is in omega arith)
       go (inr f) (wfree w) = absurd (let x = f .is in let y = w .is in omega arith)

@@ -8,7 +8,7 @@ fn suited(store: &Store, p: usize) -> bool {
     let links = &store.links[4 * p..4 * p + 4];
     let state = |t: u16| store.states.get(usize::from(t)).copied();
     let none_or = |states: &[u8]| {
-        links.iter().all(|&t| t == NONE || state(t).is_some_and(|s| states.contains(&s)))
+        links.iter().all(|&t| t == NONE || state(t).map_or(false, |s| states.contains(&s)))
     };
     match store.states[p] {
         FREE => none_or(&[]) && store.holds[p] == 0,

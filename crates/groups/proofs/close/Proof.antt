@@ -1,11 +1,9 @@
 -- `groups::close` meets its contract: the positions passed are finished with the leader, and nothing else has changed. Assumes nothing.
 use mathlib.Core.List.{List}
 use native.Mathlib.Omega.{arith}
-use Prim.Native.Nat.{ℕ, _≤_, _<_, _*_, _+_, _-_, pred}
+use Prim.Native.Nat.{ℕ, _≤_, _<_, _*_, _+_, _-_}
 use mathlib.Core.Path.{_≡_, refl, sym, _∙_, ap, subst}
 use lib.ListN.{length, set, length-set}
-use Rattle.paths.specs.Ground.{_!_}
-use Rattle.groups.specs.Layout.{part, part-get}
 use Rattle.groups.specs.Steps.{ClosedOff}
 use Rattle.groups.specs.Loops.{close-none, close-more, x-lt}
 use Rattle.groups.proofs.close.Statement.{statement}

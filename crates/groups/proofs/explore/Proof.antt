@@ -1,57 +1,57 @@
 -- `groups::explore` meets its contract: each of its five returns is one move of the search. Assumes nothing.
-use Prim.Native.Nat.{ℕ, _+_, _-_, _*_, _≤_, _<_}
-use lib.ListN.{length, set}
-use mathlib.Core.Path.{_≡_, refl, sym, _∙_, ap, subst}
+use mathlib.Core.Path.{refl}
+use Prim.Native.Nat.{ℕ, _+_, _-_, _*_}
+use lib.ListN.{set}
+use mathlib.Core.Path.{_≡_, sym, _∙_, ap, subst}
 use mathlib.Core.List.{List}
 use native.Mathlib.Omega.{arith}
 use Rattle.paths.specs.Ground.{_!_}
 use Rattle.groups.specs.Steps.{Stepped, Cut, pushed}
-use Rattle.groups.specs.Explore.{passed, entered, room, size-n, push-ok, blocks-ok, step-none, step-class, step-finished, step-push, step-merge}
-use borrow.Author.Needs.{needs}
+use Rattle.groups.specs.Explore.{entered, room, size-n, push-ok, blocks-ok, step-none, step-class, step-finished, step-push, step-merge}
 use Rattle.groups.proofs.explore.Statement.{statement}
 use Rattle.groups.proofs.explore.Tie as tie
 
 mul-target : tie.Need-mul-target
-mul-target c = search needs
+mul-target c = omega (arith, c .before .before .before .pre .0 .stands .piece-lt, c .before .before .before .pre .0 .lent .most)
 
 add-target : tie.Need-add-target
-add-target c = search needs
+add-target c = omega (arith, c .before .before .before .pre .0 .stands .piece-lt, c .before .before .before .pre .0 .lent .most, c .before .before .before .pre .1)
 
 mul-target-2 : tie.Need-mul-target-2
-mul-target-2 c = search needs
+mul-target-2 c = omega (arith, c .before .before .before .pre .0 .stands .piece-lt, c .before .before .before .pre .0 .lent .most, c .before .before .before .pre .1)
 
 shared-slice-read-target : tie.Need-shared-slice-read-target
-shared-slice-read-target c = search needs
+shared-slice-read-target c = omega (arith, c .before .before .before .before .pre .0 .stands .piece-lt, c .before .before .before .before .pre .0 .lent .links-n, c .before .before .before .before .pre .1)
 
 cast-target : tie.Need-cast-target
 cast-target c = omega (arith, c .shared-slice-known3 .given (4 * c .before .before .before .before .args .a .piece + c .before .before .before .before .args .a .place))
 
 add-t21 : tie.Need-add-t21
-add-t21 c = search needs
+add-t21 c = omega (arith, c .before .before .before .before .before .pre .1)
 
 returns : tie.Need-returns
 returns c = step-none (c .before .before .before .before .before .pre .0) (c .before .before .before .before .before .pre .1) (c .if1 .taken)
 
 shared-slice-read-if2 : tie.Need-shared-slice-read-if2
-shared-slice-read-if2 c = search needs
+shared-slice-read-if2 c = omega (arith, c .before .if1 .left, c .before .before .before .before .before .before .pre .0 .lent .states-n)
 
 add-t24 : tie.Need-add-t24
-add-t24 c = search needs
+add-t24 c = omega (arith, c .before .before .before .before .before .before .before .pre .1)
 
 returns-2 : tie.Need-returns-2
 returns-2 c = step-class (c .before .before .before .before .before .before .before .pre .0) (c .before .before .before .before .before .before .before .pre .1) (c .if2 .taken)
 
 get-requires : tie.Need-get-requires
-get-requires c κs = search needs
+get-requires c κs = omega (arith, c .before .before .before .if1 .left, c .before .before .before .before .before .before .before .before .pre .0 .lent .work-n)
 
 add-put : tie.Need-add-put
-add-put c = search needs
+add-put c = omega (arith, c .before .before .before .before .before .before .before .before .before .before .before .pre .0 .stands .piece-lt, c .before .before .before .before .before .before .before .before .before .before .before .pre .0 .lent .most)
 
 add-put-2 : tie.Need-add-put-2
-add-put-2 c = search needs
+add-put-2 c = omega (arith, c .before .before .before .before .before .before .before .before .before .before .before .pre .1)
 
 put-requires : tie.Need-put-requires
-put-requires c κs = search needs
+put-requires c κs = (omega (arith, c .before .before .before .before .before .before .before .before .before .before .before .pre .0 .stands .piece-lt, c .before .before .before .before .before .before .before .before .before .before .before .pre .0 .lent .work-n), omega (arith, c .before .before .before .before .before .before .before .before .before .before .before .pre .1))
 
 push-requires : tie.Need-push-requires
 push-requires c κs = push-ok (c .before .before .before .before .before .before .before .before .before .before .before .before .before .before .before .pre .0) (c .before .before .before .before .before .before .before .before .before .before .before .before .before .before .before .pre .1) (c .before .before .before .before .before .before .before .before .before .before .if1 .left) (c .before .before .before .before .before .before .before .before .if2 .left) (sym (c .before .before .before .before .before .before .get .ensures) ∙ c .before .before .before .before .before .if3 .taken) (c .before .before .before .put .last .0) (c .before .before .before .put .kept .0)
@@ -63,7 +63,7 @@ add-t30 : tie.Need-add-t30
 add-t30 c = omega (arith, room (c .before .before .before .before .before .before .before .before .before .before .before .before .before .before .before .before .before .before .pre .0) (c .before .before .before .before .before .before .before .before .before .before .before .before .before .before .before .before .before .before .pre .1) (c .before .before .before .before .before .before .before .before .before .before .before .before .before .if1 .left) (c .before .before .before .before .before .before .before .before .before .before .before .if2 .left) (sym (c .before .before .before .before .before .before .before .before .before .get .ensures) ∙ c .before .before .before .before .before .before .before .before .if3 .taken) .1, c .before .before .before .before .before .before .before .before .before .before .before .before .before .before .before .before .before .before .pre .0 .lent .most)
 
 same-length : tie.Need-same-length
-same-length c = search needs
+same-length c = c .before .before .push .kept .1 .0 ∙ c .before .before .before .before .before .before .put .kept .0
 
 returns-3 : tie.Need-returns-3
 returns-3 c =
@@ -75,25 +75,25 @@ returns-3 c =
     (step-push (c .before .before .before .before .before .before .before .before .before .before .before .before .before .before .before .before .before .before .pre .0) (c .before .before .before .before .before .before .before .before .before .before .before .before .before .before .before .before .before .before .pre .1) (c .before .before .before .before .before .before .before .before .before .before .before .before .before .if1 .left) (c .before .before .before .before .before .before .before .before .before .before .before .if2 .left) (sym (c .before .before .before .before .before .before .before .before .before .get .ensures) ∙ c .before .before .before .before .before .before .before .before .if3 .taken))
 
 add-t34 : tie.Need-add-t34
-add-t34 c = search needs
+add-t34 c = omega (arith, c .before .before .before .before .before .before .before .before .before .before .before .pre .1)
 
 same-length-2 : tie.Need-same-length-2
-same-length-2 c = search needs
+same-length-2 c = refl
 
 returns-4 : tie.Need-returns-4
 returns-4 c = step-finished (c .before .before .before .before .before .before .before .before .before .before .before .pre .0) (c .before .before .before .before .before .before .before .before .before .before .before .pre .1) (c .before .before .before .before .before .before .if1 .left) (sym (c .before .before .get .ensures) ∙ c .if4 .taken)
 
 sub-merge : tie.Need-sub-merge
-sub-merge c = search needs
+sub-merge c = omega (arith, c .before .before .if3 .left)
 
 merge-requires : tie.Need-merge-requires
 merge-requires c κs = blocks-ok (c .before .before .before .before .before .before .before .before .before .before .before .before .pre .0) (c .before .before .before .before .before .before .before .before .before .before .before .before .pre .1) (c .before .before .before .before .before .before .before .if1 .left) (c .before .before .before .before .before .if2 .left)
 
 add-t16 : tie.Need-add-t16
-add-t16 c = search needs
+add-t16 c = omega (arith, c .before .before .before .before .before .before .before .before .before .before .before .before .before .pre .1)
 
 same-length-3 : tie.Need-same-length-3
-same-length-3 c = search needs
+same-length-3 c = refl
 
 returns-5 : tie.Need-returns-5
 returns-5 c =

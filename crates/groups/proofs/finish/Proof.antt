@@ -1,23 +1,19 @@
 -- `groups::finish` meets its contract: it pops the last block, or goes back to the parent. Assumes nothing.
-use Prim.Native.Nat.{ℕ, _+_, _-_, _*_, _≤_, _<_}
-use mathlib.Core.Path.{_≡_, refl, sym, _∙_, ap, subst}
-use mathlib.Core.List.{List}
+use mathlib.Core.Path.{refl, sym, _∙_}
 use native.Mathlib.Omega.{arith}
-use Rattle.paths.specs.Ground.{_!_}
 use Rattle.groups.specs.Explore.{stand-lt, size-n, blocks-some, blocks-n}
-use Rattle.groups.specs.Finish.{len, work-n, pieces, parent-n, piece-ok, step-back, step-pop}
-use borrow.Author.Needs.{needs}
+use Rattle.groups.specs.Finish.{work-n, pieces, parent-n, piece-ok, step-back, step-pop}
 use Rattle.groups.proofs.finish.Statement.{statement}
 use Rattle.groups.proofs.finish.Tie as tie
 
 add-put : tie.Need-add-put
-add-put c = search needs
+add-put c = omega (arith, c .before .before .before .before .pre .0 .stands .piece-lt, c .before .before .before .before .pre .0 .lent .most)
 
 put-requires : tie.Need-put-requires
-put-requires c κs = search needs
+put-requires c κs = (omega (arith, c .before .before .before .before .pre .0 .stands .piece-lt, c .before .before .before .before .pre .0 .lent .work-n), omega arith)
 
 mul-get : tie.Need-mul-get
-mul-get c = search needs
+mul-get c = omega (arith, c .before .before .before .before .before .before .before .before .pre .0 .lent .most)
 
 sub-get : tie.Need-sub-get
 sub-get c = blocks-some (c .before .before .before .before .before .before .before .before .pre .0)
@@ -29,7 +25,7 @@ get-requires : tie.Need-get-requires
 get-requires c κs = omega (arith, blocks-some (c .before .before .before .before .before .before .before .before .pre .0), blocks-n (c .before .before .before .before .before .before .before .before .pre .0), c .before .before .before .put .kept .0, c .before .before .before .before .before .before .before .before .pre .0 .lent .work-n)
 
 mul-get-2 : tie.Need-mul-get-2
-mul-get-2 c = search needs
+mul-get-2 c = omega (arith, c .before .before .before .before .before .before .before .before .before .before .pre .0 .lent .most)
 
 add-get-2 : tie.Need-add-get-2
 add-get-2 c = omega (arith, stand-lt (c .before .before .before .before .before .before .before .before .before .before .pre .0), size-n (c .before .before .before .before .before .before .before .before .before .before .pre .0), c .before .before .before .before .before .before .before .before .before .before .pre .0 .lent .most)
@@ -55,7 +51,7 @@ resume-requires c κs =
     (p .0 .lent .most, omega (arith, c .before .before .before .close .kept .1 .0, work-n (p .0) (p .1) (p .2) (c .before .before .before .before .before .before .before .before .before .before .before .before .before .before .put .ensures)), omega (arith, c .before .before .before .before .before .before .before .before .get2 .ensures, parent-n (p .0) (p .1) (p .2) (c .before .before .before .before .before .before .before .before .before .before .before .before .before .before .put .ensures)), piece-ok (p .0) (p .1) (p .2) (c .before .before .before .before .before .before .before .before .before .before .before .before .before .before .put .ensures) (c .before .before .before .before .before .before .before .before .get2 .ensures) (c .before .before .before .close .last .1 .0) (c .before .before .before .close .ensures .stack-same))
 
 same-length : tie.Need-same-length
-same-length c = search needs
+same-length c = c .before .before .before .before .close .kept .1 .0 ∙ c .before .before .before .before .before .before .before .before .before .before .before .before .before .before .before .put .kept .0
 
 returns : tie.Need-returns
 returns c =
@@ -68,7 +64,7 @@ resume-requires-2 c κs =
     (p .0 .lent .most, work-n (p .0) (p .1) (p .2) (c .before .before .before .before .before .before .before .before .put .ensures), omega (arith, c .before .before .get2 .ensures, parent-n (p .0) (p .1) (p .2) (c .before .before .before .before .before .before .before .before .put .ensures)), piece-ok (p .0) (p .1) (p .2) (c .before .before .before .before .before .before .before .before .put .ensures) (c .before .before .get2 .ensures) (c .before .before .before .before .before .before .before .before .put .last .0) refl)
 
 same-length-2 : tie.Need-same-length-2
-same-length-2 c = search needs
+same-length-2 c = c .before .before .before .before .before .before .before .before .before .put .kept .0
 
 returns-2 : tie.Need-returns-2
 returns-2 c =

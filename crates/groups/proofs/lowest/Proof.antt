@@ -1,7 +1,7 @@
 -- `groups::lowest` meets its contract: `low` is the lowest of the positions passed. Assumes nothing.
 use mathlib.Core.List.{List}
 use native.Mathlib.Omega.{arith}
-use Prim.Native.Nat.{ℕ, _≤_, _<_, _*_, _+_, _-_, pred}
+use Prim.Native.Nat.{ℕ, _≤_, _<_, _*_, _+_, _-_}
 use mathlib.Core.Path.{_≡_, sym, _∙_, subst}
 use mathlib.Core.Logic.{⊎-elim}
 use Rattle.paths.specs.Ground.{_!_}

@@ -1,10 +1,6 @@
 -- `groups::merge` meets its contract: the blocks from `left` on start above the position, and the first does not. Assumes nothing.
 use native.Mathlib.Omega.{arith}
-use Prim.Native.Nat.{ℕ, _≤_, _<_, _*_, _+_, _-_, pred}
-use Rattle.paths.specs.Ground.{_!_}
-use Rattle.groups.specs.Layout.{part, part-get}
 use Rattle.groups.specs.Loops.{CutLoop, cut-more, cut-done}
-use mathlib.Core.Path.{subst}
 use Rattle.groups.proofs.merge.Statement.{statement}
 use Rattle.groups.proofs.merge.Tie as tie
 

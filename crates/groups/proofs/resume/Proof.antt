@@ -1,7 +1,6 @@
 -- `groups::resume` meets its contract: the piece and its place are as read. Assumes nothing.
-use mathlib.Core.Path.{_≡_, refl, sym, _∙_, ap, subst}
-use native.Mathlib.Omega.{arith}
-use Prim.Native.Nat.{ℕ, _+_, _-_, _*_, _≤_, _<_}
+use mathlib.Core.Path.{refl, _∙_, ap}
+use Prim.Native.Nat.{ℕ, _+_}
 use Rattle.paths.specs.Ground.{_!_}
 use borrow.Author.Needs.{needs}
 use Rattle.groups.proofs.resume.Statement.{statement}

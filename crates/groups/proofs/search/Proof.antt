@@ -1,5 +1,5 @@
 -- `groups::search` meets its contract: each step keeps what held at the root, and the measure falls. Assumes nothing.
-use mathlib.Core.Path.{_≡_, refl, sym, _∙_, ap, subst}
+use mathlib.Core.Path.{refl, sym, _∙_}
 use native.Mathlib.Omega.{arith}
 use Rattle.paths.specs.Search.{measure}
 use Rattle.groups.specs.Steps.{view}

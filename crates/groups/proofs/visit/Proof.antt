@@ -1,6 +1,5 @@
 -- `groups::visit` meets its contract: one search from the root, on which nothing was finished. Assumes nothing.
 use Rattle.groups.specs.Roots.{started, marked}
-use borrow.Author.Needs.{needs}
 use Rattle.groups.proofs.visit.Statement.{statement}
 use Rattle.groups.proofs.visit.Tie as tie
 

@@ -1,15 +1,13 @@
+-- `letting_go::drain` meets its contract. The loop's invariant: the steps so far, whatever the letting go began with. The measure is what is left of 4n places.
+-- Assumes nothing.
 use native.Mathlib.Omega.{arith}
-use Prim.Native.Nat.{ℕ, _≤_, _<_, _*_, _/_, _%_, _+_, _-_}
-use mathlib.Core.Path.{_≡_, refl, sym, _∙_, ap, subst}
-use mathlib.Core.List.{List}
+use Prim.Native.Nat.{ℕ, _+_, _-_, _*_}
+use mathlib.Core.Path.{_≡_, refl, _∙_, subst}
 use lib.ListN.{length}
-use Rattle.falling.specs.Queue.{tail-most}
-use Rattle.falling.specs.Steps.{base, Going, Stepped, stepped-none, stepped-on, going-on}
+use Rattle.falling.specs.Steps.{Stepped, stepped-none, stepped-on, going-on}
+use Rattle.falling.specs.Places.{tail-in}
 use Rattle.letting_go.proofs.drain.Statement.{statement}
 use Rattle.letting_go.proofs.drain.Tie as tie
-use Rattle.letting_go.proofs.drain.Reads as reads
-use Rattle.letting_go.proofs.drain.Lts as lts
-use Rattle.letting_go.proofs.drop_place.Reads as drop-place-reads
 
 abbrev Inv-loop : tie.InvT-loop
 Inv-loop n states₀ links₀ leaders counts₀ list₀ first tail₀ m₀ states links counts list tail m = Stepped n leaders states₀ links₀ counts₀ list₀ 0 first states links counts list m tail × (length states ≡ length states₀) × (length links ≡ length links₀) × (length counts ≡ length counts₀) × (length list ≡ length list₀)
@@ -18,27 +16,70 @@ abbrev μ-loop : tie.MeasureT-loop
 μ-loop n states₀ links₀ leaders counts₀ list₀ first tail₀ m₀ states links counts list tail m = 4 * n - m
 
 loop-holds : tie.Need-loop-holds Inv-loop μ-loop
-loop-holds c = (stepped-none (c .before .before .before .before .before .args .n) (c .before .before .before .before .before .args .leaders .now) (c .before .before .before .before .before .args .states .now) (c .before .before .before .before .before .args .links .now) (c .before .before .before .before .before .args .counts .now) (c .before .before .before .before .before .args .list .now) 0 (c .before .before .before .before .before .args .first), refl, refl, refl, refl)
+loop-holds c =
+    let a = c .before .before .before .before .before .args in
+    (stepped-none (a .n) (a .leaders .now) (a .states .now) (a .links .now) (a .counts .now) (a .list .now) 0 (a .first), refl, refl, refl, refl)
 
 mul-loop : tie.Need-mul-loop Inv-loop μ-loop
-mul-loop c = omega (arith, tail-most (base (c .before .before .before .before .before .before .args .n) ((going-on (c .before .before .before .before .before .before .args .n) (c .before .before .before .before .before .before .args .leaders .now) (c .before .before .before .before .before .before .args .states .now) (c .before .before .before .before .before .before .args .links .now) (c .before .before .before .before .before .before .args .counts .now) (c .before .before .before .before .before .before .args .list .now) 0 (c .before .before .before .before .before .before .args .first) (c .loop .states) (c .loop .links) (c .loop .counts) (c .loop .list) (c .loop .m) (c .loop .tail) (c .before .before .before .before .before .before .pre) (c .loop .inv .0)) .states₀) ((going-on (c .before .before .before .before .before .before .args .n) (c .before .before .before .before .before .before .args .leaders .now) (c .before .before .before .before .before .before .args .states .now) (c .before .before .before .before .before .before .args .links .now) (c .before .before .before .before .before .before .args .counts .now) (c .before .before .before .before .before .before .args .list .now) 0 (c .before .before .before .before .before .before .args .first) (c .loop .states) (c .loop .links) (c .loop .counts) (c .loop .list) (c .loop .m) (c .loop .tail) (c .before .before .before .before .before .before .pre) (c .loop .inv .0)) .links₀) ((going-on (c .before .before .before .before .before .before .args .n) (c .before .before .before .before .before .before .args .leaders .now) (c .before .before .before .before .before .before .args .states .now) (c .before .before .before .before .before .before .args .links .now) (c .before .before .before .before .before .before .args .counts .now) (c .before .before .before .before .before .before .args .list .now) 0 (c .before .before .before .before .before .before .args .first) (c .loop .states) (c .loop .links) (c .loop .counts) (c .loop .list) (c .loop .m) (c .loop .tail) (c .before .before .before .before .before .before .pre) (c .loop .inv .0)) .holds)) (c .before .before .before .before .before .before .args .leaders .now) (c .loop .states) (c .loop .links) (c .loop .counts) (c .loop .list) (c .loop .tail) ((going-on (c .before .before .before .before .before .before .args .n) (c .before .before .before .before .before .before .args .leaders .now) (c .before .before .before .before .before .before .args .states .now) (c .before .before .before .before .before .before .args .links .now) (c .before .before .before .before .before .before .args .counts .now) (c .before .before .before .before .before .before .args .list .now) 0 (c .before .before .before .before .before .before .args .first) (c .loop .states) (c .loop .links) (c .loop .counts) (c .loop .list) (c .loop .m) (c .loop .tail) (c .before .before .before .before .before .before .pre) (c .loop .inv .0)) .inv .core), (going-on (c .before .before .before .before .before .before .args .n) (c .before .before .before .before .before .before .args .leaders .now) (c .before .before .before .before .before .before .args .states .now) (c .before .before .before .before .before .before .args .links .now) (c .before .before .before .before .before .before .args .counts .now) (c .before .before .before .before .before .before .args .list .now) 0 (c .before .before .before .before .before .before .args .first) (c .loop .states) (c .loop .links) (c .loop .counts) (c .loop .list) (c .loop .m) (c .loop .tail) (c .before .before .before .before .before .before .pre) (c .loop .inv .0)) .inv .core .sizes .small)
+mul-loop c =
+    let a = c .before .before .before .before .before .before .args in
+    let l = c .loop in
+    let given = c .before .before .before .before .before .before .pre in
+    omega (
+      arith,
+      tail-in (a .n) (a .leaders .now) (l .states) (l .links) (l .counts) (l .list) (l .m) (l .tail)
+          (going-on (a .n) (a .leaders .now) (a .states .now) (a .links .now) (a .counts .now) (a .list .now) 0 (a .first) (l .states) (l .links)
+          (l .counts) (l .list) (l .m) (l .tail) given (l .inv .0)),
+    )
 
 drop-place-requires : tie.Need-drop-place-requires Inv-loop μ-loop
-drop-place-requires c κs = ((going-on (c .before .before .before .before .before .before .before .before .before .before .before .args .n) (c .before .before .before .before .before .before .before .before .before .before .before .args .leaders .now) (c .before .before .before .before .before .before .before .before .before .before .before .args .states .now) (c .before .before .before .before .before .before .before .before .before .before .before .args .links .now) (c .before .before .before .before .before .before .before .before .before .before .before .args .counts .now) (c .before .before .before .before .before .before .before .before .before .before .before .args .list .now) 0 (c .before .before .before .before .before .before .before .before .before .before .before .args .first) (c .before .before .before .before .before .loop .states) (c .before .before .before .before .before .loop .links) (c .before .before .before .before .before .loop .counts) (c .before .before .before .before .before .loop .list) (c .before .before .before .before .before .loop .m) (c .before .before .before .before .before .loop .tail) (c .before .before .before .before .before .before .before .before .before .before .before .pre) (c .before .before .before .before .before .loop .inv .0)), c .before .before .before .before .loop-test .taken)
+drop-place-requires c κs =
+    let a = c .before .before .before .before .before .before .before .before .before .before .before .args in
+    let l = c .before .before .before .before .before .loop in
+    let given = c .before .before .before .before .before .before .before .before .before .before .before .pre in
+    let test = c .before .before .before .before .loop-test in (
+      going-on (a .n) (a .leaders .now) (a .states .now) (a .links .now) (a .counts .now) (a .list .now) 0 (a .first) (l .states) (l .links)
+          (l .counts) (l .list) (l .m) (l .tail) given (l .inv .0),
+      test .taken,
+    )
 
 add-m : tie.Need-add-m Inv-loop μ-loop
-add-m c = omega (arith, tail-most (base (c .before .before .before .before .before .before .before .before .before .before .before .before .before .before .before .before .before .before .before .before .args .n) ((going-on (c .before .before .before .before .before .before .before .before .before .before .before .before .before .before .before .before .before .before .before .before .args .n) (c .before .before .before .before .before .before .before .before .before .before .before .before .before .before .before .before .before .before .before .before .args .leaders .now) (c .before .before .before .before .before .before .before .before .before .before .before .before .before .before .before .before .before .before .before .before .args .states .now) (c .before .before .before .before .before .before .before .before .before .before .before .before .before .before .before .before .before .before .before .before .args .links .now) (c .before .before .before .before .before .before .before .before .before .before .before .before .before .before .before .before .before .before .before .before .args .counts .now) (c .before .before .before .before .before .before .before .before .before .before .before .before .before .before .before .before .before .before .before .before .args .list .now) 0 (c .before .before .before .before .before .before .before .before .before .before .before .before .before .before .before .before .before .before .before .before .args .first) (c .before .before .before .before .before .before .before .before .before .before .before .before .before .before .loop .states) (c .before .before .before .before .before .before .before .before .before .before .before .before .before .before .loop .links) (c .before .before .before .before .before .before .before .before .before .before .before .before .before .before .loop .counts) (c .before .before .before .before .before .before .before .before .before .before .before .before .before .before .loop .list) (c .before .before .before .before .before .before .before .before .before .before .before .before .before .before .loop .m) (c .before .before .before .before .before .before .before .before .before .before .before .before .before .before .loop .tail) (c .before .before .before .before .before .before .before .before .before .before .before .before .before .before .before .before .before .before .before .before .pre) (c .before .before .before .before .before .before .before .before .before .before .before .before .before .before .loop .inv .0)) .states₀) ((going-on (c .before .before .before .before .before .before .before .before .before .before .before .before .before .before .before .before .before .before .before .before .args .n) (c .before .before .before .before .before .before .before .before .before .before .before .before .before .before .before .before .before .before .before .before .args .leaders .now) (c .before .before .before .before .before .before .before .before .before .before .before .before .before .before .before .before .before .before .before .before .args .states .now) (c .before .before .before .before .before .before .before .before .before .before .before .before .before .before .before .before .before .before .before .before .args .links .now) (c .before .before .before .before .before .before .before .before .before .before .before .before .before .before .before .before .before .before .before .before .args .counts .now) (c .before .before .before .before .before .before .before .before .before .before .before .before .before .before .before .before .before .before .before .before .args .list .now) 0 (c .before .before .before .before .before .before .before .before .before .before .before .before .before .before .before .before .before .before .before .before .args .first) (c .before .before .before .before .before .before .before .before .before .before .before .before .before .before .loop .states) (c .before .before .before .before .before .before .before .before .before .before .before .before .before .before .loop .links) (c .before .before .before .before .before .before .before .before .before .before .before .before .before .before .loop .counts) (c .before .before .before .before .before .before .before .before .before .before .before .before .before .before .loop .list) (c .before .before .before .before .before .before .before .before .before .before .before .before .before .before .loop .m) (c .before .before .before .before .before .before .before .before .before .before .before .before .before .before .loop .tail) (c .before .before .before .before .before .before .before .before .before .before .before .before .before .before .before .before .before .before .before .before .pre) (c .before .before .before .before .before .before .before .before .before .before .before .before .before .before .loop .inv .0)) .links₀) ((going-on (c .before .before .before .before .before .before .before .before .before .before .before .before .before .before .before .before .before .before .before .before .args .n) (c .before .before .before .before .before .before .before .before .before .before .before .before .before .before .before .before .before .before .before .before .args .leaders .now) (c .before .before .before .before .before .before .before .before .before .before .before .before .before .before .before .before .before .before .before .before .args .states .now) (c .before .before .before .before .before .before .before .before .before .before .before .before .before .before .before .before .before .before .before .before .args .links .now) (c .before .before .before .before .before .before .before .before .before .before .before .before .before .before .before .before .before .before .before .before .args .counts .now) (c .before .before .before .before .before .before .before .before .before .before .before .before .before .before .before .before .before .before .before .before .args .list .now) 0 (c .before .before .before .before .before .before .before .before .before .before .before .before .before .before .before .before .before .before .before .before .args .first) (c .before .before .before .before .before .before .before .before .before .before .before .before .before .before .loop .states) (c .before .before .before .before .before .before .before .before .before .before .before .before .before .before .loop .links) (c .before .before .before .before .before .before .before .before .before .before .before .before .before .before .loop .counts) (c .before .before .before .before .before .before .before .before .before .before .before .before .before .before .loop .list) (c .before .before .before .before .before .before .before .before .before .before .before .before .before .before .loop .m) (c .before .before .before .before .before .before .before .before .before .before .before .before .before .before .loop .tail) (c .before .before .before .before .before .before .before .before .before .before .before .before .before .before .before .before .before .before .before .before .pre) (c .before .before .before .before .before .before .before .before .before .before .before .before .before .before .loop .inv .0)) .holds)) (c .before .before .before .before .before .before .before .before .before .before .before .before .before .before .before .before .before .before .before .before .args .leaders .now) (c .before .before .before .before .before .before .before .before .before .before .before .before .before .before .loop .states) (c .before .before .before .before .before .before .before .before .before .before .before .before .before .before .loop .links) (c .before .before .before .before .before .before .before .before .before .before .before .before .before .before .loop .counts) (c .before .before .before .before .before .before .before .before .before .before .before .before .before .before .loop .list) (c .before .before .before .before .before .before .before .before .before .before .before .before .before .before .loop .tail) ((going-on (c .before .before .before .before .before .before .before .before .before .before .before .before .before .before .before .before .before .before .before .before .args .n) (c .before .before .before .before .before .before .before .before .before .before .before .before .before .before .before .before .before .before .before .before .args .leaders .now) (c .before .before .before .before .before .before .before .before .before .before .before .before .before .before .before .before .before .before .before .before .args .states .now) (c .before .before .before .before .before .before .before .before .before .before .before .before .before .before .before .before .before .before .before .before .args .links .now) (c .before .before .before .before .before .before .before .before .before .before .before .before .before .before .before .before .before .before .before .before .args .counts .now) (c .before .before .before .before .before .before .before .before .before .before .before .before .before .before .before .before .before .before .before .before .args .list .now) 0 (c .before .before .before .before .before .before .before .before .before .before .before .before .before .before .before .before .before .before .before .before .args .first) (c .before .before .before .before .before .before .before .before .before .before .before .before .before .before .loop .states) (c .before .before .before .before .before .before .before .before .before .before .before .before .before .before .loop .links) (c .before .before .before .before .before .before .before .before .before .before .before .before .before .before .loop .counts) (c .before .before .before .before .before .before .before .before .before .before .before .before .before .before .loop .list) (c .before .before .before .before .before .before .before .before .before .before .before .before .before .before .loop .m) (c .before .before .before .before .before .before .before .before .before .before .before .before .before .before .loop .tail) (c .before .before .before .before .before .before .before .before .before .before .before .before .before .before .before .before .before .before .before .before .pre) (c .before .before .before .before .before .before .before .before .before .before .before .before .before .before .loop .inv .0)) .inv .core), (going-on (c .before .before .before .before .before .before .before .before .before .before .before .before .before .before .before .before .before .before .before .before .args .n) (c .before .before .before .before .before .before .before .before .before .before .before .before .before .before .before .before .before .before .before .before .args .leaders .now) (c .before .before .before .before .before .before .before .before .before .before .before .before .before .before .before .before .before .before .before .before .args .states .now) (c .before .before .before .before .before .before .before .before .before .before .before .before .before .before .before .before .before .before .before .before .args .links .now) (c .before .before .before .before .before .before .before .before .before .before .before .before .before .before .before .before .before .before .before .before .args .counts .now) (c .before .before .before .before .before .before .before .before .before .before .before .before .before .before .before .before .before .before .before .before .args .list .now) 0 (c .before .before .before .before .before .before .before .before .before .before .before .before .before .before .before .before .before .before .before .before .args .first) (c .before .before .before .before .before .before .before .before .before .before .before .before .before .before .loop .states) (c .before .before .before .before .before .before .before .before .before .before .before .before .before .before .loop .links) (c .before .before .before .before .before .before .before .before .before .before .before .before .before .before .loop .counts) (c .before .before .before .before .before .before .before .before .before .before .before .before .before .before .loop .list) (c .before .before .before .before .before .before .before .before .before .before .before .before .before .before .loop .m) (c .before .before .before .before .before .before .before .before .before .before .before .before .before .before .loop .tail) (c .before .before .before .before .before .before .before .before .before .before .before .before .before .before .before .before .before .before .before .before .pre) (c .before .before .before .before .before .before .before .before .before .before .before .before .before .before .loop .inv .0)) .inv .core .sizes .small)
+add-m c =
+    let a = c .before .before .before .before .before .before .before .before .before .before .before .before .before .before .before .before .before .before .before .before .args in
+    let l = c .before .before .before .before .before .before .before .before .before .before .before .before .before .before .loop in
+    let given = c .before .before .before .before .before .before .before .before .before .before .before .before .before .before .before .before .before .before .before .before .pre in
+    omega (
+      arith,
+      tail-in (a .n) (a .leaders .now) (l .states) (l .links) (l .counts) (l .list) (l .m) (l .tail)
+          (going-on (a .n) (a .leaders .now) (a .states .now) (a .links .now) (a .counts .now) (a .list .now) 0 (a .first) (l .states) (l .links)
+          (l .counts) (l .list) (l .m) (l .tail) given (l .inv .0)),
+    )
 
 loop-less : tie.Need-loop-less Inv-loop μ-loop
-loop-less c = omega (arith, tail-most (base (c .before .before .before .before .before .before .before .before .before .before .before .before .before .before .before .before .before .before .before .before .args .n) ((going-on (c .before .before .before .before .before .before .before .before .before .before .before .before .before .before .before .before .before .before .before .before .args .n) (c .before .before .before .before .before .before .before .before .before .before .before .before .before .before .before .before .before .before .before .before .args .leaders .now) (c .before .before .before .before .before .before .before .before .before .before .before .before .before .before .before .before .before .before .before .before .args .states .now) (c .before .before .before .before .before .before .before .before .before .before .before .before .before .before .before .before .before .before .before .before .args .links .now) (c .before .before .before .before .before .before .before .before .before .before .before .before .before .before .before .before .before .before .before .before .args .counts .now) (c .before .before .before .before .before .before .before .before .before .before .before .before .before .before .before .before .before .before .before .before .args .list .now) 0 (c .before .before .before .before .before .before .before .before .before .before .before .before .before .before .before .before .before .before .before .before .args .first) (c .before .before .before .before .before .before .before .before .before .before .before .before .before .before .loop .states) (c .before .before .before .before .before .before .before .before .before .before .before .before .before .before .loop .links) (c .before .before .before .before .before .before .before .before .before .before .before .before .before .before .loop .counts) (c .before .before .before .before .before .before .before .before .before .before .before .before .before .before .loop .list) (c .before .before .before .before .before .before .before .before .before .before .before .before .before .before .loop .m) (c .before .before .before .before .before .before .before .before .before .before .before .before .before .before .loop .tail) (c .before .before .before .before .before .before .before .before .before .before .before .before .before .before .before .before .before .before .before .before .pre) (c .before .before .before .before .before .before .before .before .before .before .before .before .before .before .loop .inv .0)) .states₀) ((going-on (c .before .before .before .before .before .before .before .before .before .before .before .before .before .before .before .before .before .before .before .before .args .n) (c .before .before .before .before .before .before .before .before .before .before .before .before .before .before .before .before .before .before .before .before .args .leaders .now) (c .before .before .before .before .before .before .before .before .before .before .before .before .before .before .before .before .before .before .before .before .args .states .now) (c .before .before .before .before .before .before .before .before .before .before .before .before .before .before .before .before .before .before .before .before .args .links .now) (c .before .before .before .before .before .before .before .before .before .before .before .before .before .before .before .before .before .before .before .before .args .counts .now) (c .before .before .before .before .before .before .before .before .before .before .before .before .before .before .before .before .before .before .before .before .args .list .now) 0 (c .before .before .before .before .before .before .before .before .before .before .before .before .before .before .before .before .before .before .before .before .args .first) (c .before .before .before .before .before .before .before .before .before .before .before .before .before .before .loop .states) (c .before .before .before .before .before .before .before .before .before .before .before .before .before .before .loop .links) (c .before .before .before .before .before .before .before .before .before .before .before .before .before .before .loop .counts) (c .before .before .before .before .before .before .before .before .before .before .before .before .before .before .loop .list) (c .before .before .before .before .before .before .before .before .before .before .before .before .before .before .loop .m) (c .before .before .before .before .before .before .before .before .before .before .before .before .before .before .loop .tail) (c .before .before .before .before .before .before .before .before .before .before .before .before .before .before .before .before .before .before .before .before .pre) (c .before .before .before .before .before .before .before .before .before .before .before .before .before .before .loop .inv .0)) .links₀) ((going-on (c .before .before .before .before .before .before .before .before .before .before .before .before .before .before .before .before .before .before .before .before .args .n) (c .before .before .before .before .before .before .before .before .before .before .before .before .before .before .before .before .before .before .before .before .args .leaders .now) (c .before .before .before .before .before .before .before .before .before .before .before .before .before .before .before .before .before .before .before .before .args .states .now) (c .before .before .before .before .before .before .before .before .before .before .before .before .before .before .before .before .before .before .before .before .args .links .now) (c .before .before .before .before .before .before .before .before .before .before .before .before .before .before .before .before .before .before .before .before .args .counts .now) (c .before .before .before .before .before .before .before .before .before .before .before .before .before .before .before .before .before .before .before .before .args .list .now) 0 (c .before .before .before .before .before .before .before .before .before .before .before .before .before .before .before .before .before .before .before .before .args .first) (c .before .before .before .before .before .before .before .before .before .before .before .before .before .before .loop .states) (c .before .before .before .before .before .before .before .before .before .before .before .before .before .before .loop .links) (c .before .before .before .before .before .before .before .before .before .before .before .before .before .before .loop .counts) (c .before .before .before .before .before .before .before .before .before .before .before .before .before .before .loop .list) (c .before .before .before .before .before .before .before .before .before .before .before .before .before .before .loop .m) (c .before .before .before .before .before .before .before .before .before .before .before .before .before .before .loop .tail) (c .before .before .before .before .before .before .before .before .before .before .before .before .before .before .before .before .before .before .before .before .pre) (c .before .before .before .before .before .before .before .before .before .before .before .before .before .before .loop .inv .0)) .holds)) (c .before .before .before .before .before .before .before .before .before .before .before .before .before .before .before .before .before .before .before .before .args .leaders .now) (c .before .before .before .before .before .before .before .before .before .before .before .before .before .before .loop .states) (c .before .before .before .before .before .before .before .before .before .before .before .before .before .before .loop .links) (c .before .before .before .before .before .before .before .before .before .before .before .before .before .before .loop .counts) (c .before .before .before .before .before .before .before .before .before .before .before .before .before .before .loop .list) (c .before .before .before .before .before .before .before .before .before .before .before .before .before .before .loop .tail) ((going-on (c .before .before .before .before .before .before .before .before .before .before .before .before .before .before .before .before .before .before .before .before .args .n) (c .before .before .before .before .before .before .before .before .before .before .before .before .before .before .before .before .before .before .before .before .args .leaders .now) (c .before .before .before .before .before .before .before .before .before .before .before .before .before .before .before .before .before .before .before .before .args .states .now) (c .before .before .before .before .before .before .before .before .before .before .before .before .before .before .before .before .before .before .before .before .args .links .now) (c .before .before .before .before .before .before .before .before .before .before .before .before .before .before .before .before .before .before .before .before .args .counts .now) (c .before .before .before .before .before .before .before .before .before .before .before .before .before .before .before .before .before .before .before .before .args .list .now) 0 (c .before .before .before .before .before .before .before .before .before .before .before .before .before .before .before .before .before .before .before .before .args .first) (c .before .before .before .before .before .before .before .before .before .before .before .before .before .before .loop .states) (c .before .before .before .before .before .before .before .before .before .before .before .before .before .before .loop .links) (c .before .before .before .before .before .before .before .before .before .before .before .before .before .before .loop .counts) (c .before .before .before .before .before .before .before .before .before .before .before .before .before .before .loop .list) (c .before .before .before .before .before .before .before .before .before .before .before .before .before .before .loop .m) (c .before .before .before .before .before .before .before .before .before .before .before .before .before .before .loop .tail) (c .before .before .before .before .before .before .before .before .before .before .before .before .before .before .before .before .before .before .before .before .pre) (c .before .before .before .before .before .before .before .before .before .before .before .before .before .before .loop .inv .0)) .inv .core))
+loop-less c =
+    let a = c .before .before .before .before .before .before .before .before .before .before .before .before .before .before .before .before .before .before .before .before .args in
+    let l = c .before .before .before .before .before .before .before .before .before .before .before .before .before .before .loop in
+    let given = c .before .before .before .before .before .before .before .before .before .before .before .before .before .before .before .before .before .before .before .before .pre in
+    omega (
+      arith,
+      tail-in (a .n) (a .leaders .now) (l .states) (l .links) (l .counts) (l .list) (l .m) (l .tail)
+          (going-on (a .n) (a .leaders .now) (a .states .now) (a .links .now) (a .counts .now) (a .list .now) 0 (a .first) (l .states) (l .links)
+          (l .counts) (l .list) (l .m) (l .tail) given (l .inv .0)),
+    )
 
 loop-again : tie.Need-loop-again Inv-loop μ-loop
-loop-again c = (
-      stepped-on (c .before .before .before .before .before .before .before .before .before .before .before .before .before .before .before .before .before .before .before .before .args .n) (c .before .before .before .before .before .before .before .before .before .before .before .before .before .before .before .before .before .before .before .before .args .leaders .now) (c .before .before .before .before .before .before .before .before .before .before .before .before .before .before .before .before .before .before .before .before .args .states .now) (c .before .before .before .before .before .before .before .before .before .before .before .before .before .before .before .before .before .before .before .before .args .links .now) (c .before .before .before .before .before .before .before .before .before .before .before .before .before .before .before .before .before .before .before .before .args .counts .now) (c .before .before .before .before .before .before .before .before .before .before .before .before .before .before .before .before .before .before .before .before .args .list .now) 0 (c .before .before .before .before .before .before .before .before .before .before .before .before .before .before .before .before .before .before .before .before .args .first) (c .before .before .before .before .before .before .before .before .before .before .before .before .before .before .loop .states) (c .before .before .before .before .before .before .before .before .before .before .before .before .before .before .loop .links) (c .before .before .before .before .before .before .before .before .before .before .before .before .before .before .loop .counts) (c .before .before .before .before .before .before .before .before .before .before .before .before .before .before .loop .list) (c .before .before .before .before .before .before .before .before .before .before .before .before .before .before .loop .m) (c .before .before .before .before .before .before .before .before .before .before .before .before .before .before .loop .tail) (c .before .before .before .before .before .before .before .before .drop-place .last .1 .0) (c .before .before .before .before .before .before .before .before .drop-place .last .1 .1 .0) (c .before .before .before .before .before .before .before .before .drop-place .last .1 .1 .1 .1 .0) (c .before .before .before .before .before .before .before .before .drop-place .last .1 .1 .1 .1 .1 .0) (c .before .before .before .before .before .before .before .before .before .before .before .before .before .before .loop .m + 1) (c .before .before .before .before .before .before .before .before .drop-place .result) (c .before .before .before .before .before .before .before .before .before .before .before .before .before .before .loop .inv .0) (c .before .before .before .before .before .before .before .before .drop-place .ensures),
-      c .before .before .before .before .before .before .before .before .drop-place .kept .1 .0 ∙ c .before .before .before .before .before .before .before .before .before .before .before .before .before .before .loop .inv .1,
-      c .before .before .before .before .before .before .before .before .drop-place .kept .1 .1 .0 ∙ c .before .before .before .before .before .before .before .before .before .before .before .before .before .before .loop .inv .2,
-      c .before .before .before .before .before .before .before .before .drop-place .kept .1 .1 .1 .1 .0 ∙ c .before .before .before .before .before .before .before .before .before .before .before .before .before .before .loop .inv .3,
-      c .before .before .before .before .before .before .before .before .drop-place .kept .1 .1 .1 .1 .1 .0 ∙ c .before .before .before .before .before .before .before .before .before .before .before .before .before .before .loop .inv .4,
+loop-again c =
+    let a = c .before .before .before .before .before .before .before .before .before .before .before .before .before .before .before .before .before .before .before .before .args in
+    let l = c .before .before .before .before .before .before .before .before .before .before .before .before .before .before .loop in
+    let d = c .before .before .before .before .before .before .before .before .drop-place in (
+      stepped-on (a .n) (a .leaders .now) (a .states .now) (a .links .now) (a .counts .now) (a .list .now) 0 (a .first) (l .states) (l .links)
+          (l .counts) (l .list) (l .m) (l .tail) (d .last .1 .0) (d .last .1 .1 .0) (d .last .1 .1 .1 .1 .0) (d .last .1 .1 .1 .1 .1 .0) (l .m + 1)
+          (d .result) (l .inv .0) (d .ensures),
+      d .kept .1 .0 ∙ l .inv .1,
+      d .kept .1 .1 .0 ∙ l .inv .2,
+      d .kept .1 .1 .1 .1 .0 ∙ l .inv .3,
+      d .kept .1 .1
+          .1 .1 .1 .0 ∙ l .inv .4,
     )
 
 same-length : tie.Need-same-length Inv-loop μ-loop
@@ -54,7 +95,18 @@ same-length-4 : tie.Need-same-length-4 Inv-loop μ-loop
 same-length-4 c = c .before .loop .inv .4
 
 returns : tie.Need-returns Inv-loop μ-loop
-returns c = let p = (going-on (c .before .before .before .before .before .before .before .args .n) (c .before .before .before .before .before .before .before .args .leaders .now) (c .before .before .before .before .before .before .before .args .states .now) (c .before .before .before .before .before .before .before .args .links .now) (c .before .before .before .before .before .before .before .args .counts .now) (c .before .before .before .before .before .before .before .args .list .now) 0 (c .before .before .before .before .before .before .before .args .first) (c .before .loop .states) (c .before .loop .links) (c .before .loop .counts) (c .before .loop .list) (c .before .loop .m) (c .before .loop .tail) (c .before .before .before .before .before .before .before .pre) (c .before .loop .inv .0)) .inv .place in subst (λ (m : ℕ). Stepped (c .before .before .before .before .before .before .before .args .n) (c .before .before .before .before .before .before .before .args .leaders .now) (c .before .before .before .before .before .before .before .args .states .now) (c .before .before .before .before .before .before .before .args .links .now) (c .before .before .before .before .before .before .before .args .counts .now) (c .before .before .before .before .before .before .before .args .list .now) 0 (c .before .before .before .before .before .before .before .args .first) (c .before .loop .states) (c .before .loop .links) (c .before .loop .counts) (c .before .loop .list) m (c .before .loop .tail)) (omega arith) (c .before .loop .inv .0)
+returns c =
+    let a = c .before .before .before .before .before .before .before .args in
+    let l = c .before .loop in
+    let given = c .before .before .before .before .before .before .before .pre in
+    subst (λ (m : ℕ). Stepped (a .n) (a .leaders .now) (a .states .now) (a .links .now) (a .counts .now) (a .list .now) 0 (a .first) (l .states)
+    (l .links) (l .counts) (l .list) m (l .tail))
+    (omega (
+      arith,
+      tail-in (a .n) (a .leaders .now) (l .states) (l .links) (l .counts) (l .list) (l .m) (l .tail)
+          (going-on (a .n) (a .leaders .now) (a .states .now) (a .links .now) (a .counts .now) (a .list .now) 0 (a .first) (l .states) (l .links)
+          (l .counts) (l .list) (l .m) (l .tail) given (l .inv .0)),
+    )) (l .inv .0)
 
 pub drain-spec : {M : Type 1} → statement M
 drain-spec =

@@ -1,17 +1,14 @@
 -- A piece with all places explored that starts no block: back to its parent.
-use mathlib.Core.Path.{_≡_, refl, sym, _∙_, ap, subst}
+use mathlib.Core.Path.{_≡_, sym, ap, subst}
 use mathlib.Core.List.{List}
-use mathlib.Core.Logic.{_⊎_, inl, inr, ⊎-elim}
-use Prim.Native.Nat.{ℕ, zero, suc, pred, _+_, _-_, _*_, _≤_, _<_}
+use mathlib.Core.Logic.{⊎-elim}
+use Prim.Native.Nat.{ℕ, pred, _≤_, _<_}
 use native.Mathlib.Omega.{arith}
-use lib.ListN.{getD, length, set, length-set}
-use Rattle.rules.specs.Reach.{Link, Reach, here, chain}
 use Rattle.laws.specs.Words.{trans}
-use Rattle.paths.specs.Ground.{Ground, Step, Way, Leads, Closed, _!_, one-step, way-at}
-use Rattle.paths.specs.Search.{finished, sign, count, Stack, Starts, Trail, Explored, Ends, Standing, Regions, Sizes, Steady, Invariant}
-use Rattle.paths.specs.Tools.{eq-or, lt-or, set-same, set-other, set-cases, ext-cases}
-use Rattle.paths.specs.Sums.{count-lt, count-le, count-same, count-more}
-use Rattle.paths.specs.Runs.{up-to, back-to}
+use Rattle.paths.specs.Ground.{Ground, _!_}
+use Rattle.paths.specs.Search.{Standing, Regions, Invariant}
+use Rattle.paths.specs.Tools.{eq-or, lt-or}
+use Rattle.paths.specs.Runs.{back-to}
 
 module _ (g : Ground) (old : List ℕ) (root : ℕ) (s : Regions) (size blocks stand : ℕ) (I : Invariant g old root s size blocks stand) (live : 0 < size)
     (full : s .next ! (s .stack ! stand) ≡ 4) (inner : s .starts ! pred blocks ≡ stand → ⊥) where

@@ -1,17 +1,13 @@
 -- A place is explored: its piece's counter goes up by one.
-use mathlib.Core.Path.{_≡_, refl, sym, _∙_, ap, subst}
+use mathlib.Core.Path.{_≡_, sym, _∙_, ap, subst}
 use mathlib.Core.List.{List}
-use mathlib.Core.Logic.{_⊎_, inl, inr, ⊎-elim}
-use Prim.Native.Nat.{ℕ, zero, suc, pred, _+_, _-_, _*_, _≤_, _<_}
+use mathlib.Core.Logic.{⊎-elim}
+use Prim.Native.Nat.{ℕ, suc, _≤_, _<_}
 use native.Mathlib.Omega.{arith}
-use lib.ListN.{getD, length, set, length-set}
-use Rattle.rules.specs.Reach.{Link, Reach, here, chain}
-use Rattle.laws.specs.Words.{trans}
-use Rattle.paths.specs.Ground.{Ground, Step, Way, Leads, Closed, _!_, one-step, way-at}
-use Rattle.paths.specs.Search.{finished, sign, count, Stack, Starts, Trail, Explored, Ends, Standing, Regions, Sizes, Steady, Invariant}
-use Rattle.paths.specs.Tools.{eq-or, lt-or, set-same, set-other, set-cases, ext-cases}
-use Rattle.paths.specs.Sums.{count-lt, count-le, count-same, count-more}
-use Rattle.paths.specs.Runs.{up-to, back-to}
+use lib.ListN.{length, set, length-set}
+use Rattle.paths.specs.Ground.{Ground, _!_}
+use Rattle.paths.specs.Search.{Regions, Invariant}
+use Rattle.paths.specs.Tools.{lt-or, set-other, set-cases}
 
 abbrev pub bumped : Regions → ℕ → Regions
 bumped s v = record { marks = s .marks; next = set (s .next) v (suc (s .next ! v)); leaders = s .leaders; stack = s .stack; starts = s .starts; parents = s .parents }

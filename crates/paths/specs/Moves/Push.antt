@@ -1,17 +1,16 @@
 -- An unseen piece is pushed, as a block of its own.
 use mathlib.Core.Path.{_≡_, refl, sym, _∙_, ap, subst}
 use mathlib.Core.List.{List}
-use mathlib.Core.Logic.{_⊎_, inl, inr, ⊎-elim}
-use Prim.Native.Nat.{ℕ, zero, suc, pred, _+_, _-_, _*_, _≤_, _<_}
+use mathlib.Core.Logic.{_⊎_, ⊎-elim}
+use Prim.Native.Nat.{ℕ, suc, pred, _≤_, _<_}
 use native.Mathlib.Omega.{arith}
-use lib.ListN.{getD, length, set, length-set}
-use Rattle.rules.specs.Reach.{Link, Reach, here, chain}
+use lib.ListN.{length, set, length-set}
+use Rattle.rules.specs.Reach.{here}
 use Rattle.laws.specs.Words.{trans}
-use Rattle.paths.specs.Ground.{Ground, Step, Way, Leads, Closed, _!_, one-step, way-at}
-use Rattle.paths.specs.Search.{finished, sign, count, Stack, Starts, Trail, Explored, Ends, Standing, Regions, Sizes, Steady, Invariant}
-use Rattle.paths.specs.Tools.{eq-or, lt-or, set-same, set-other, set-cases, ext-cases}
-use Rattle.paths.specs.Sums.{count-lt, count-le, count-same, count-more}
-use Rattle.paths.specs.Runs.{up-to, back-to}
+use Rattle.paths.specs.Ground.{Ground, Way, _!_, way-at}
+use Rattle.paths.specs.Search.{finished, sign, Stack, Starts, Trail, Explored, Ends, Standing, Regions, Steady, Invariant}
+use Rattle.paths.specs.Tools.{lt-or, set-same, set-other, set-cases, ext-cases}
+use Rattle.paths.specs.Sums.{count-lt, count-more}
 
 abbrev pub pushed : Regions → ℕ → ℕ → ℕ → ℕ → Regions
 pushed s size blocks stand y = record { marks = set (s .marks) y (suc size); next = s .next; leaders = s .leaders; stack = set (s .stack) size y; starts = set (s .starts) blocks size; parents = set (s .parents) size stand }

@@ -1,0 +1,40 @@
+-- `put_look` writes the line of a look, by its case. Assumes nothing.
+use Rattle.answers.proofs.put_look.Statement.{statement}
+use Rattle.answers.proofs.put_look.Tie as tie
+
+enum-known-seen : tie.Need-enum-known-seen
+enum-known-seen c = c .match .keys1
+
+put-piece-requires : tie.Need-put-piece-requires
+put-piece-requires c κs = c .before .before .before .before .before .pre
+
+enum-known-seen-2 : tie.Need-enum-known-seen-2
+enum-known-seen-2 c = c .match .keys2
+
+put-refused-requires : tie.Need-put-refused-requires
+put-refused-requires c κs = c .before .before .before .before .before .pre
+
+same-length : tie.Need-same-length
+same-length c = c .before .before .put-piece .kept .0
+
+returns : tie.Need-returns
+returns c = rw (c .before .before .before .before .before .seen .given .1) (c .before .before .put-piece .ensures)
+
+same-length-2 : tie.Need-same-length-2
+same-length-2 c = c .before .before .put-refused .kept .0
+
+returns-2 : tie.Need-returns-2
+returns-2 c = rw (c .before .before .before .before .before .seen2 .given .1) (c .before .before .put-refused .ensures)
+
+pub put-look-spec : {M : Type 1} → statement M
+put-look-spec =
+    tie.close
+    (tie.spec
+    enum-known-seen
+    put-piece-requires
+    enum-known-seen-2
+    put-refused-requires
+    same-length
+    returns
+    same-length-2
+    returns-2)

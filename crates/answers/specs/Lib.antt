@@ -1,0 +1,4 @@
+pub mod Wrote
+pub mod Decimals
+pub mod Writes
+pub mod Replies

@@ -1,0 +1,157 @@
+-- `binning::bin_draft` meets its contract. The emptied tables are the edited base; at most the groups that p named fell, and the letting go leaves what 01 says.
+-- Assumes nothing.
+use native.Mathlib.Omega.{arith}
+use Prim.Native.Nat.{_+_, _*_}
+use mathlib.Core.Path.{_∙_}
+use lib.ListN.{length-set}
+use Rattle.editing.specs.Bin.{emptying, bin-tippings, bin-going, bin-done}
+use borrow.Author.Needs.{needs}
+use Rattle.binning.proofs.bin_draft.Statement.{statement}
+use Rattle.binning.proofs.bin_draft.Tie as tie
+
+mul-at : tie.Need-mul-at
+mul-at c = search needs
+
+mul-a : tie.Need-mul-a
+mul-a c = search needs
+
+slice-read-a : tie.Need-slice-read-a
+slice-read-a c = search needs
+
+cast-a : tie.Need-cast-a
+cast-a c = let a = c .before .before .before .before .before .before .before .args in omega (arith, c .slice-known6 .given (4 * a .p))
+
+add-b : tie.Need-add-b
+add-b c = search needs
+
+mul-b : tie.Need-mul-b
+mul-b c = search needs
+
+slice-read-b : tie.Need-slice-read-b
+slice-read-b c = search needs
+
+cast-b : tie.Need-cast-b
+cast-b c = let a = c .before .before .before .before .before .before .before .before .args in omega (arith, c .slice-known7 .given (4 * a .p + 1))
+
+add-c : tie.Need-add-c
+add-c c = search needs
+
+mul-c : tie.Need-mul-c
+mul-c c = search needs
+
+slice-read-c : tie.Need-slice-read-c
+slice-read-c c = search needs
+
+cast-c : tie.Need-cast-c
+cast-c c = let a = c .before .before .before .before .before .before .before .before .before .args in omega (arith, c .slice-known8 .given (4 * a .p + 2))
+
+add-d : tie.Need-add-d
+add-d c = search needs
+
+mul-d : tie.Need-mul-d
+mul-d c = search needs
+
+slice-read-d : tie.Need-slice-read-d
+slice-read-d c = search needs
+
+cast-d : tie.Need-cast-d
+cast-d c = let a = c .before .before .before .before .before .before .before .before .before .before .args in omega (arith, c .slice-known9 .given (4 * a .p + 3))
+
+empty-places-requires : tie.Need-empty-places-requires
+empty-places-requires c κs =
+    let given = c .before .before .before .before .before .before .before .before .before .before .before .before .before .pre in
+    let a = c .before .before .before .before .before .before .before .before .before .before .before .before .before .args in
+    emptying (a .n) (a .states .now) (a .links .now) (a .leaders .now) (a .holds .now) (a .counts .now) (a .p) (given .0) (given .2) (given .3)
+    (given .4) (given .5)
+
+slice-write-states : tie.Need-slice-write-states
+slice-write-states c = search needs
+
+fall-four-requires : tie.Need-fall-four-requires
+fall-four-requires c κs =
+    let given = c .before .before .before .before .before .before .before .before .before .before .before .before .before .before .before .before .before .before .before .before .before .before .pre in
+    let emptied = c .before .before .before .before .before .before .before .before .empty-places in
+    let a = c .before .before .before .before .before .before .before .before .before .before .before .before .before .before .before .before .before .before .before .before .before .before .args in
+    bin-tippings (a .n) (a .states .now) (a .links .now) (a .leaders .now) (a .holds .now) (a .counts .now) (a .p) (given .0) (given .2) (given .3)
+    (given .4) (given .5) (emptied .last .1 .0) (emptied .last .1 .1 .1 .0) (emptied .ensures) (a .list .now) (given .1)
+
+let-go-requires : tie.Need-let-go-requires
+let-go-requires c κs =
+    let given = c .before .before .before .before .before .before .before .before .before .before .before .before .before .before .before .before .before .before .before .before .before .before .before .before .before .before .before .before .before .before .before .before .pre in
+    let fell = c .before .before .before .before .before .before .before .before .before .fall-four in
+    let emptied = c .before .before .before .before .before .before .before .before .before .before .before .before .before .before .before .before .before .before .empty-places in
+    let a = c .before .before .before .before .before .before .before .before .before .before .before .before .before .before .before .before .before .before .before .before .before .before .before .before .before .before .before .before .before .before .before .before .args in
+    bin-going (a .n) (a .states .now) (a .links .now) (a .leaders .now) (a .holds .now) (a .counts .now) (a .p) (given .0) (given .2) (given .3)
+    (given .4) (given .5) (emptied .last .1 .0) (emptied .last .1 .1 .1 .0) (emptied .ensures) (a .list .now) (given .1) (fell .last .1 .0)
+    (fell .last .1 .1 .1 .1 .0) (fell .result) (fell .ensures)
+
+same-length : tie.Need-same-length
+same-length c =
+    let a = c .before .before .before .before .before .before .before .before .before .before .before .before .before .before .before .before .before .before .before .before .before .before .before .before .before .before .before .before .before .before .before .before .before .before .before .before .before .before .before .before .before .before .before .args in
+    let freed = c .before .before .before .before .before .before .before .before .before .before .let-go in
+    let fell = c .before .before .before .before .before .before .before .before .before .before .before .before .before .before .before .before .before .before .before .before .fall-four in
+    freed .kept .1 .0 ∙ fell .kept .1 .0 ∙ length-set (a .states .now) (a .p) 0
+
+same-length-2 : tie.Need-same-length-2
+same-length-2 c =
+    let freed = c .before .before .before .before .before .before .before .before .before .before .let-go in
+    let emptied = c .before .before .before .before .before .before .before .before .before .before .before .before .before .before .before .before .before .before .before .before .before .before .before .before .before .before .before .before .before .empty-places in
+    freed .kept .1 .1 .0 ∙ emptied .kept .1 .0
+
+same-length-3 : tie.Need-same-length-3
+same-length-3 c = c .before .before .before .before .before .before .before .before .before .before .let-go .kept .1 .1 .1 .0
+
+same-length-4 : tie.Need-same-length-4
+same-length-4 c =
+    let freed = c .before .before .before .before .before .before .before .before .before .before .let-go in
+    let emptied = c .before .before .before .before .before .before .before .before .before .before .before .before .before .before .before .before .before .before .before .before .before .before .before .before .before .before .before .before .before .empty-places in
+    freed .kept .1 .1 .1 .1 .0 ∙ emptied .kept .1 .1 .1 .0
+
+same-length-5 : tie.Need-same-length-5
+same-length-5 c =
+    let freed = c .before .before .before .before .before .before .before .before .before .before .let-go in
+    let fell = c .before .before .before .before .before .before .before .before .before .before .before .before .before .before .before .before .before .before .before .before .fall-four in
+    freed .kept .1 .1 .1 .1 .1 .0 ∙ fell .kept .1 .1 .1 .1 .0
+
+returns : tie.Need-returns
+returns c =
+    let freed = c .before .before .before .before .before .before .before .before .before .before .let-go in
+    let given = c .before .before .before .before .before .before .before .before .before .before .before .before .before .before .before .before .before .before .before .before .before .before .before .before .before .before .before .before .before .before .before .before .before .before .before .before .before .before .before .before .before .before .before .pre in
+    let fell = c .before .before .before .before .before .before .before .before .before .before .before .before .before .before .before .before .before .before .before .before .fall-four in
+    let emptied = c .before .before .before .before .before .before .before .before .before .before .before .before .before .before .before .before .before .before .before .before .before .before .before .before .before .before .before .before .before .empty-places in
+    let a = c .before .before .before .before .before .before .before .before .before .before .before .before .before .before .before .before .before .before .before .before .before .before .before .before .before .before .before .before .before .before .before .before .before .before .before .before .before .before .before .before .before .before .before .args in
+    bin-done (a .n) (a .states .now) (a .links .now) (a .leaders .now) (a .holds .now) (a .counts .now) (a .p) (given .0) (given .2) (given .3)
+    (given .4) (given .5) (emptied .last .1 .0) (emptied .last .1 .1 .1 .0) (emptied .ensures) (a .list .now) (given .1) (fell .last .1 .0)
+    (fell .last .1 .1 .1 .1 .0) (fell .result) (fell .ensures) (fell .kept .1 .1 .1 .1 .0) (freed .last .1 .0) (freed .last .1 .1 .0)
+    (freed .last .1 .1 .1 .0) (freed .last .1 .1 .1 .1 .0) (freed .last .1 .1 .1 .1 .1 .0) (freed .result) (freed .ensures)
+
+pub bin-draft-spec : {M : Type 1} → statement M
+bin-draft-spec =
+    tie.close
+    (tie.spec
+    mul-at
+    mul-a
+    slice-read-a
+    cast-a
+    add-b
+    mul-b
+    slice-read-b
+    cast-b
+    add-c
+    mul-c
+    slice-read-c
+    cast-c
+    add-d
+    mul-d
+    slice-read-d
+    cast-d
+    empty-places-requires
+    slice-write-states
+    fall-four-requires
+    let-go-requires
+    same-length
+    same-length-2
+    same-length-3
+    same-length-4
+    same-length-5
+    returns)

@@ -1,0 +1,145 @@
+// Bin on sound tables: draft P becomes free.
+ghost use mathlib.Core.Path.{_≡_};
+ghost use mathlib.Core.Bool.{false};
+ghost use mathlib.Core.List.{[], _∷_};
+ghost use Prim.Native.Nat.{_*_, _≤_, _<_};
+ghost use lib.ListN.{length};
+ghost use Rattle.rules.specs.Calls.{answered, effect, storeOf, Ready, Did};
+ghost use Rattle.rules.specs.declared.Command.the-variants.{Bin};
+ghost use Rattle.tallies.specs.Tally.{_!_};
+ghost use Rattle.editing.specs.Verdicts.{Accepted};
+ghost use Rattle.editing.specs.Started.{Tippings, Tumbled};
+ghost use Rattle.editing.specs.Linked.{namings, linkedTo};
+ghost use Rattle.editing.specs.Emptied.{Emptying, Emptied};
+use rules::Answer;
+use rules::Refusal;
+use rules::Store;
+
+// How many of the links name p.
+fn naming(links: &[u16], p: u16) -> u16
+    requires { ⌜ length (now links) ≤ 4096 ⌝ }
+    ensures { λ r. ⌜ r ≡ namings (now (links .entry)) p (length (now (links .entry))) ⌝ }
+{
+    let mut count: u16 = 0;
+    let mut i: usize = 0;
+    while i < links.len() {
+        if links[i] == p {
+            count += 1;
+        }
+        i += 1;
+    }
+    count
+}
+
+// Whether another piece than p links to p: more places name it than its own four.
+fn is_linked(n: usize, links: &[u16], p: u16) -> bool
+    requires { ⌜ (length (now links) ≡ 4 * n) × (n ≤ 1024) × (p < n) ⌝ }
+    ensures { λ r. ⌜ r ≡ linkedTo n (now (links .entry)) p ⌝ }
+{
+    let all = naming(links, p);
+    let at = p as usize;
+    let start = 4 * at;
+    let end = start + 4;
+    let own = naming(&links[start..end], p);
+    if all != own {
+        return true;
+    }
+    false
+}
+
+// Empties the four places of draft p.
+fn empty_places(n: usize, links: &mut [u16], leaders: &[u16], counts: &mut [u32], p: usize)
+    requires { ⌜ Emptying n (now links) (now leaders) (now counts) p ⌝ }
+    ensures { λ _. ⌜ Emptied n (now (links .entry)) (now (leaders .entry)) (now (counts .entry)) p 4 (now (links .exit)) (now (counts .exit)) ⌝ }
+{
+    let mut k: usize = 0;
+    while k < 4 {
+        linking::relink(n, links, leaders, counts, p, k, Store::NONE);
+        k += 1;
+    }
+}
+
+// Puts the leaders of the groups of a, b, c and d into the queue, those whose count has fallen to 0. Gives how many.
+fn fall_four(
+    n: usize,
+    states: &mut [u8],
+    leaders: &[u16],
+    counts: &[u32],
+    list: &mut [u16],
+    a: usize,
+    b: usize,
+    c: usize,
+    d: usize,
+) -> usize
+    requires { ⌜ Tippings n (now states) (now leaders) (now counts) (now list) 0 (a ∷ b ∷ c ∷ d ∷ []) ⌝ }
+    ensures { λ r. ⌜ Tumbled n (now (states .entry)) (now (leaders .entry)) (now (counts .entry)) (now (list .entry)) 0 (a ∷ b ∷ c ∷ d ∷ []) (now (states .exit)) (now (list .exit)) r ⌝ }
+{
+    let one = letting_go::fall(n, states, leaders, counts, list, a, 0);
+    let two = letting_go::fall(n, states, leaders, counts, list, b, one);
+    let three = letting_go::fall(n, states, leaders, counts, list, c, two);
+    letting_go::fall(n, states, leaders, counts, list, d, three)
+}
+
+// Draft p, which no other piece names, becomes free; then every frozen piece no longer kept does. Gives how many frozen pieces.
+fn bin_draft(
+    n: usize,
+    states: &mut [u8],
+    links: &mut [u16],
+    leaders: &mut [u16],
+    holds: &[u16],
+    counts: &mut [u32],
+    list: &mut [u16],
+    p: usize,
+) -> usize
+    requires { ⌜ Ready (storeOf n (now states) (now links) (now leaders) (now holds) (now counts)) × (n ≤ length (now list)) × (p < n)
+        × (now states ! p ≡ 0 → ⊥) × (now states ! p ≡ 2 → ⊥) × (false ≡ linkedTo n (now links) p) ⌝ }
+    ensures { λ r. ⌜ Accepted (Bin p)
+        (storeOf n (now (states .entry)) (now (links .entry)) (now (leaders .entry)) (now (holds .entry)) (now (counts .entry))) (now (list .entry))
+        (storeOf n (now (states .exit)) (now (links .exit)) (now (leaders .exit)) (now (holds .entry)) (now (counts .exit))) (now (list .exit)) r ⌝ }
+{
+    let at = 4 * p;
+    let a = links[at] as usize;
+    let b = links[at + 1] as usize;
+    let c = links[at + 2] as usize;
+    let d = links[at + 3] as usize;
+    empty_places(n, links, leaders, counts, p);
+    states[p] = 0;
+    let first = fall_four(n, states, leaders, counts, list, a, b, c, d);
+    letting_go::let_go(n, states, links, leaders, counts, list, first)
+}
+
+// Draft P becomes free.
+pub fn bin(
+    n: usize,
+    states: &mut [u8],
+    links: &mut [u16],
+    leaders: &mut [u16],
+    holds: &[u16],
+    counts: &mut [u32],
+    list: &mut [u16],
+    p: u16,
+) -> Answer
+    requires { ⌜ Ready (storeOf n (now states) (now links) (now leaders) (now holds) (now counts)) × (n ≤ length (now list)) ⌝ }
+    ensures { λ r. ⌜ Did (Bin p)
+        (storeOf n (now (states .entry)) (now (links .entry)) (now (leaders .entry)) (now (holds .entry)) (now (counts .entry))) (now (list .entry))
+        (effect (answered r) (storeOf n (now (states .exit)) (now (links .exit)) (now (leaders .exit)) (now (holds .entry)) (now (counts .exit))) (now (list .exit))) ⌝ }
+{
+    let at = p as usize;
+    if n <= at {
+        return Answer::Refused(Refusal::Number);
+    }
+    if states[at] == 0 {
+        return Answer::Refused(Refusal::Free);
+    }
+    if states[at] == 2 {
+        return Answer::Refused(Refusal::State);
+    }
+    if is_linked(n, links, p) {
+        return Answer::Refused(Refusal::Linked);
+    }
+    let freed = bin_draft(n, states, links, leaders, holds, counts, list, at) as u16;
+    Answer::Done {
+        value: Store::NONE,
+        freed,
+    }
+}

@@ -1,0 +1,24 @@
+// The rest of a chunk is carried to the front of the buffer, before the next chunk is read behind it.
+ghost use Prim.Native.Nat.{_≤_};
+ghost use lib.ListN.{length};
+ghost use Rattle.carrying.specs.Carried.{Carried};
+
+// A line of more bytes is bad whatever its bytes.
+const ENOUGH: usize = 65;
+
+// Moves the bytes from `from` up to `to`, at most 65 of them, to the front, and answers how many.
+pub fn carry(buf: &mut [u8], from: usize, to: usize) -> usize
+    requires { ⌜ (from ≤ to) × (to ≤ length (now buf)) ⌝ }
+    ensures { λ r. ⌜ Carried (now (buf .entry)) from to (now (buf .exit)) r ⌝ }
+{
+    let mut size = to - from;
+    if ENOUGH < size {
+        size = ENOUGH;
+    }
+    let mut i = 0;
+    while i < size {
+        buf[i] = buf[from + i];
+        i += 1;
+    }
+    size
+}

@@ -1,0 +1,4 @@
+pub mod Chunks
+pub mod Short
+pub mod Reading
+pub mod Places

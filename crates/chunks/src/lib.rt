@@ -1,0 +1,1 @@
+// A text in chunks: theorems about the lines that it has; no code.

@@ -1,0 +1,10 @@
+pub mod Verdicts
+pub mod Names
+pub mod Started
+pub mod Holds
+pub mod Relink
+pub mod Targets
+pub mod Set
+pub mod Linked
+pub mod Emptied
+pub mod Bin

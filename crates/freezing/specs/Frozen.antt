@@ -1,0 +1,167 @@
+-- Freeze of a draft: what the search finished, turned, is what the rules freeze, with the leaders and counts of the finished store.
+use mathlib.Core.Path.{_≡_, refl, sym, ap, ap₂, _∙_, subst}
+use mathlib.Core.List.{List, [], _∷_, _++_}
+use mathlib.Core.Logic.{_⊎_, inl, inr, ⊎-elim, _≢_}
+use mathlib.Core.Bool.{Bool, true, false, not}
+use Prim.Native.Nat.{ℕ, zero, suc, _+_, _*_, _≤_, _<_}
+use native.Mathlib.Omega.{arith}
+use lib.Dec.{T, T-not, not-T, eqb}
+use lib.ListN.{length, getD, set, drop, replicate, length-set}
+use lib.Seq.{ext-getD}
+use Rattle.rules.specs.Tests.{_&_, pick}
+use Rattle.rules.specs.Limits.{none}
+use Rattle.rules.specs.Below.{table}
+use Rattle.rules.specs.Reach.{Reach}
+use Rattle.rules.specs.Tables.{Base, Store, state, isDraft, isFrozen, linkAt, reaches, finish}
+use Rattle.rules.specs.Words.{Frozen, Reaches, Group, Leader, Well, SizedBase}
+use Rattle.rules.specs.Commands.{oneMore, freezeFirst, edit, settles, after, nextStore}
+use Rattle.rules.specs.Calls.{storeOf, Ready, Clear}
+use Rattle.rules.specs.declared.Command.the-variants.{Freeze}
+use Rattle.laws.specs.Tests.{and-both, and-left, and-right}
+use Rattle.laws.specs.Below.{T-dec, pick-true, pick-false, length-table, getD-table}
+use Rattle.laws.specs.Words.{end-below, isDraft→, →isDraft, not-frozen, reaches→, →reaches}
+use Rattle.laws.specs.Sound.{Good}
+use Rattle.laws.specs.Commands.{freeze-first-good}
+use Rattle.tallies.specs.Sums.{getD-any}
+use Rattle.tallies.specs.Tally.{label, CountsMatch}
+use Rattle.tallies.specs.Exact.{Exact}
+use Rattle.tallies.specs.Adding.{Labelled, Tallied}
+use Rattle.tallies.specs.Stores.{good-of, wells-of, exact-of}
+use Rattle.tallies.specs.Finished.{finished}
+use Rattle.paths.specs.Ground.{_!_, named, Lead, ground, Closed}
+use Rattle.paths.specs.Search as search
+use Rattle.paths.specs.Classes.{frozen-stays, lead-leader, drafts-closed}
+use Rattle.groups.specs.Marked.{Marked, Reached}
+use Rattle.freezing.specs.Turned.{Turned, Draft}
+
+module _ (n : ℕ) (states links leaders holds counts work : List ℕ) (p : ℕ) (d : Draft n states links leaders holds counts work p) where
+  abbrev s : Store
+  s = storeOf n states links leaders holds counts
+
+  abbrev b : Base
+  b = s .base
+
+  -- the base after the freeze
+  b′ : Base
+  b′ = freezeFirst b p
+
+  good : Good b
+  good = good-of s (d .ready)
+
+  good′ : Good b′
+  unfolding b′ state
+  good′ = freeze-first-good b (d .ready .sized .base) good p (d .below) (d .is)
+
+  module _ (work′ states′ leaders′ : List ℕ) (m : Marked n links (Reached n states links 1 p) work work′) (t : Turned n states leaders work′ n states′ leaders′) where
+    marked : (q : ℕ) → q < n → T (isDraft b q & reaches b p q) → work′ ! q ≡ search.finished
+    unfolding linkAt state
+    marked q h u = m .all q h (isDraft→ b q h (and-left (isDraft b q) (reaches b p q) u) .is, reaches→ b p q (and-right (isDraft b q) (reaches b p q) u))
+
+    turns : (q : ℕ) → q < n → work′ ! q ≡ search.finished → T (isDraft b q & reaches b p q)
+    unfolding linkAt state
+    turns q h e = let r = m .«only» q h e in and-both (isDraft b q) (reaches b p q) (→isDraft b q (r .0)) (→reaches b p q h (r .1))
+
+    state-at : (q : ℕ) → q < n → states′ ! q ≡ pick (isDraft b q & reaches b p q) 2 (state b q)
+    unfolding state
+    state-at q h = ⊎-elim
+        (λ u. t .on q h (marked q h u) .0 ∙ sym (pick-true (isDraft b q & reaches b p q) 2 (states ! q) u))
+        (λ u. t .off q (inr (λ e. T-not (isDraft b q & reaches b p q) u (turns q h e))) .0 ∙ sym (pick-false (isDraft b q & reaches b p q) 2 (states ! q) u))
+        (T-dec (isDraft b q & reaches b p q))
+
+    states-are : states′ ≡ b′ .states
+    unfolding b′ freezeFirst
+    states-are =
+        ext-getD 0 states′ (table (λ q. pick (isDraft b q & reaches b p q) 2 (state b q)) n) (size ∙ sym (length-table _ n))
+        (λ q h. let k : q < n = subst (λ (x : ℕ). q < x) size h in state-at q k ∙ sym (getD-table (λ q. pick (isDraft b q & reaches b p q) 2 (state b q)) n q 0 k))
+      where
+        size : length states′ ≡ n
+        size = t .states-n ∙ d .ready .sized .base .states
+
+    state-is : (q : ℕ) → state b′ q ≡ states′ ! q
+    unfolding state
+    state-is q = ap (λ (l : List ℕ). getD l q 0) (sym states-are)
+
+    old : Exact b leaders
+    old = exact-of s (d .ready)
+
+    leaders-size : length leaders′ ≡ n
+    leaders-size = t .leaders-n ∙ d .ready .sized .leaders
+
+    label-at : (q : ℕ) → q < n → label leaders′ q ≡ leaders′ ! q
+    label-at q h = getD-any leaders′ q none 0 (omega (arith, leaders-size))
+
+    old-at : (q : ℕ) → q < n → label leaders q ≡ leaders ! q
+    old-at q h = getD-any leaders q none 0 (omega (arith, old .size))
+
+    -- in the frozen store all that a frozen piece reaches is frozen
+    frozen-all : (q r : ℕ) → Frozen b′ q → Reaches b′ q r → r < n → Frozen b′ r
+    unfolding b′ freezeFirst
+    frozen-all q r f c h = record { below = h; is = frozen-stays b′ (d .ready .sized .base .most) (good′ .wells) (f .is) c }
+
+    exact′ : Exact b′ leaders′
+    unfolding b′ freezeFirst
+    exact′ = record {
+      size = leaders-size;
+      most = d .ready .sized .base .most;
+      leads = λ q f. ⊎-elim (λ u. fresh q f u) (λ u. stays q f u) (T-dec (isDraft b q & reaches b p q));
+      others = λ q h nf. rest q h nf;
+    }
+      where
+        reach-below : (q r : ℕ) → q < n → Reaches b′ q r → r < n
+        reach-below q r h c = end-below h c
+
+        fresh : (q : ℕ) → Frozen b′ q → T (isDraft b q & reaches b p q) → Leader b′ q (label leaders′ q)
+        fresh q f u =
+            let e = marked q (f .below) u in
+            let l = m .leads q (f .below) (m .«only» q (f .below) e) in
+            subst (Leader b′ q) (sym (label-at q (f .below) ∙ t .on q (f .below) e .1))
+            (lead-leader b′ q (work′ ! (2 * n + q)) (λ r x y. frozen-all q r f x (reach-below q r (f .below) x)) l)
+
+        was-frozen : (q : ℕ) → Frozen b′ q → T (not (isDraft b q & reaches b p q)) → state b q ≡ 2
+        was-frozen q f u = sym (state-at q (f .below) ∙ pick-false (isDraft b q & reaches b p q) 2 (state b q) u) ∙ sym (state-is q) ∙ f .is
+
+        not-marked : (q : ℕ) → q < n → T (not (isDraft b q & reaches b p q)) → leaders′ ! q ≡ leaders ! q
+        not-marked q h u = t .off q (inr (λ e. T-not (isDraft b q & reaches b p q) u (turns q h e))) .1
+
+        stays : (q : ℕ) → Frozen b′ q → T (not (isDraft b q & reaches b p q)) → Leader b′ q (label leaders′ q)
+        stays q f u =
+            let w = was-frozen q f u in
+            let x = old .leads q (record { below = f .below; is = w }) in
+            subst (Leader b′ q) (sym (label-at q (f .below) ∙ not-marked q (f .below) u ∙ sym (old-at q (f .below))))
+            (record {
+              member = record { frozen = frozen-all q (label leaders q) f (linked (x .member .there)) (x .member .frozen .below); there = linked (x .member .there); back = linked (x .member .back) };
+              lowest = λ r g. x .lowest r (record {
+                frozen = record { below = g .frozen .below; is = frozen-stays b (d .ready .sized .base .most) (good .wells) w (unlinked (g .there)) };
+                there = unlinked (g .there);
+                back = unlinked (g .back);
+              });
+            })
+          where
+            linked : {x y : ℕ} → Reaches b x y → Reaches b′ x y
+            linked c = unfold linkAt in c
+
+            unlinked : {x y : ℕ} → Reaches b′ x y → Reaches b x y
+            unlinked c = unfold linkAt in c
+
+        rest : (q : ℕ) → q < n → (state b′ q ≡ 2 → ⊥) → label leaders′ q ≡ none
+        rest q h nf = ⊎-elim
+            (λ u. absurd (nf (state-is q ∙ t .on q h (marked q h u) .0)))
+            (λ u. label-at q h ∙ not-marked q h u ∙ sym (old-at q h)
+            ∙ old .others q h (λ e. nf (state-is q ∙ state-at q h ∙ pick-false (isDraft b q & reaches b p q) 2 (state b q) u ∙ e)))
+            (T-dec (isDraft b q & reaches b p q))
+
+    -- ---- the whole freeze
+
+    holds′ : List ℕ
+    holds′ = set holds p 1
+
+    pub frozen : (counts₀ counts′ : List ℕ) → length counts₀ ≡ n → Tallied n links (set holds p 1) leaders′ counts₀ counts′
+        → storeOf n states′ links leaders′ (set holds p 1) counts′ ≡ nextStore s (Freeze p)
+    unfolding nextStore b′ freezeFirst
+    frozen counts₀ counts′ z c = tables ∙ finished b′ leaders′ exact′ (good′ .wells) counts′ (c .size ∙ z) (c .matches) ∙ ap finish (sym after-is)
+      where
+        tables : storeOf n states′ links leaders′ (set holds p 1) counts′ ≡ record { base = b′; leaders = leaders′; counts = counts′ }
+        tables = ap (λ (x : List ℕ). storeOf n x links leaders′ (set holds p 1) counts′) states-are
+
+        after-is : after b (Freeze p) ≡ freezeFirst b p
+        after-is = unfold after settles edit in (pick-false (isFrozen b p) (oneMore b p) (freezeFirst b p) (not-frozen b p 1 (unfold state in (d .is)) tt))

@@ -1,0 +1,4 @@
+pub mod Turned
+pub mod Frozen
+pub mod Whole
+pub mod Again

@@ -1,0 +1,3 @@
+pub mod Poured
+pub mod Lent
+pub mod Begun

@@ -1,0 +1,89 @@
+-- `linking::relink` meets its contract. A piece without a leader counts for every group that it names, so one more for the new target and one less for the old
+-- match again; the part lent from 4P gives the whole list back. Assumes nothing.
+use native.Mathlib.Omega.{arith}
+use Prim.Native.Nat.{_+_, _*_}
+use borrow.Author.Needs.{needs}
+use Rattle.editing.specs.Relink.{labelled-on, old-enough, relinked, part-set}
+use Rattle.linking.proofs.relink.Statement.{statement}
+use Rattle.linking.proofs.relink.Tie as tie
+
+mul-at : tie.Need-mul-at
+mul-at c = search needs
+
+add-i : tie.Need-add-i
+add-i c = search needs
+
+mul-old : tie.Need-mul-old
+mul-old c = search needs
+
+slice-read-old : tie.Need-slice-read-old
+slice-read-old c = search needs
+
+cast-old : tie.Need-cast-old
+cast-old c = let a = c .before .before .before .before .args in omega (arith, c .slice-known3 .given (4 * a .p + a .k))
+
+count-in-requires : tie.Need-count-in-requires
+count-in-requires c κs = search needs
+
+mul-put-link : tie.Need-mul-put-link
+mul-put-link c = search needs
+
+sub-put-link : tie.Need-sub-put-link
+sub-put-link c = search needs
+
+part-put-link-start : tie.Need-part-put-link-start
+part-put-link-start c = search needs
+
+part-put-link-end : tie.Need-part-put-link-end
+part-put-link-end c = search needs
+
+put-link-requires : tie.Need-put-link-requires
+put-link-requires c κs = search needs
+
+count-out-requires : tie.Need-count-out-requires
+count-out-requires c κs =
+    let more = c .before .before .before .before .before .before .before .count-in in
+    let given = c .before .before .before .before .before .before .before .before .before .before .before .before .before .pre in
+    let a = c .before .before .before .before .before .before .before .before .before .before .before .before .before .args in (
+      labelled-on (a .n) (a .links .now) (a .leaders .now) (a .counts .now) (4 * a .p + a .k) (a .t) given (more .last .1 .1 .0)
+          (more .ensures .size),
+      old-enough (a .n) (a .links .now) (a .leaders .now) (a .counts .now) (4 * a .p + a .k) (a .t) given (more .last .1 .1 .0)
+          (more .ensures),
+    )
+
+same-length : tie.Need-same-length
+same-length c = search needs
+
+same-length-2 : tie.Need-same-length-2
+same-length-2 c = search needs
+
+returns : tie.Need-returns
+returns c =
+    let given = c .before .before .before .before .before .before .before .before .before .before .before .before .before .before .before .before .pre in
+    let more = c .before .before .before .before .before .before .before .before .before .before .count-in in
+    let a = c .before .before .before .before .before .before .before .before .before .before .before .before .before .before .before .before .args in
+    let less = c .before .before .count-out in
+    let put = c .before .before .before .before .before .before .put-link in
+    relinked (a .n) (a .links .now) (a .leaders .now) (a .counts .now) (4 * a .p + a .k) (a .t) given _ (more .last .1 .1 .0) (less .last .1 .1 .0)
+    (part-set (a .links .now) _ (4 * a .p) (a .k) (a .t) (omega (arith, given .inside, given .links-n)) (put .ensures)) (more .ensures)
+    (less .ensures)
+
+pub relink-spec : {M : Type 1} → statement M
+relink-spec =
+    tie.close
+    (tie.spec
+    mul-at
+    add-i
+    mul-old
+    slice-read-old
+    cast-old
+    count-in-requires
+    mul-put-link
+    sub-put-link
+    part-put-link-start
+    part-put-link-end
+    put-link-requires
+    count-out-requires
+    same-length
+    same-length-2
+    returns)

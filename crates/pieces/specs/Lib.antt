@@ -1,0 +1,5 @@
+pub mod Packed
+pub mod Numbers
+pub mod Looks
+pub mod Parts
+pub mod Told

@@ -1,0 +1,271 @@
+// The trace reader: a line in, a line out, on tables that are sound by proof.
+ghost use mathlib.Core.Path.{_≡_};
+ghost use mathlib.Core.List.{[]};
+ghost use Prim.Native.Nat.{_+_, _≤_};
+ghost use lib.Dec.{eqb};
+ghost use lib.ListN.{length, take};
+ghost use Rattle.rules.specs.Tests.{_&_, onlyIf};
+ghost use Rattle.rules.specs.Calls.{storeOf, Ready};
+ghost use Rattle.rules.specs.Trace.{says, endLine, linesFrom, outputOf};
+ghost use Rattle.obeying.specs.Obeyed.{replyOf};
+ghost use Rattle.answers.specs.Wrote.{Wrote};
+ghost use Rattle.answers.specs.Replies.{replyLine, freedIn};
+ghost use Rattle.reader.specs.Answered.{Stands, Answered};
+ghost use Rattle.reader.specs.Fed.{LineEnd, Feeding, Stopped, NoEnd};
+ghost use Rattle.reader.specs.Ended.{Totalled};
+use obeying::Reply;
+use rules::Line;
+
+// Where the output goes on, and a number below which nothing is free.
+pub struct Step {
+    pub at: usize,
+    pub from: usize,
+}
+
+// Writes the line of a reply.
+fn write_reply(out: &mut [u8], at: usize, reply: Reply, list: &[u16]) -> usize
+    requires { ⌜ (freedIn (replyOf reply) ≤ length (now list)) × (freedIn (replyOf reply) ≤ 1024) × (at + 6208 ≤ length (now out)) ⌝ }
+    ensures { λ r. ⌜ Wrote (now (out .entry)) at (replyLine (replyOf reply) (now (list .entry))) (now (out .exit)) r × (r ≤ at + 6208) ⌝ }
+{
+    match reply {
+        Reply::Answered(answer) => answers::put_answer(out, at, answer, list),
+        Reply::Saw(seen) => answers::put_look(out, at, seen),
+    }
+}
+
+// Reads one line, does what it says and writes its answer at a place of out.
+pub fn answer(
+    line: &[u8],
+    n: usize,
+    states: &mut [u8],
+    links: &mut [u16],
+    leaders: &mut [u16],
+    holds: &mut [u16],
+    counts: &mut [u32],
+    list: &mut [u16],
+    work: &mut [u32],
+    from: usize,
+    out: &mut [u8],
+    at: usize,
+) -> Step
+    requires { ⌜ Stands n (storeOf n (now states) (now links) (now leaders) (now holds) (now counts)) (now list) (now work) from × (at + 6208 ≤ length (now out)) ⌝ }
+    ensures { λ r. ⌜ Answered n (storeOf n (now (states .entry)) (now (links .entry)) (now (leaders .entry)) (now (holds .entry)) (now (counts .entry))) (says (now (line .entry))) (now (out .entry)) at
+        (storeOf n (now (states .exit)) (now (links .exit)) (now (leaders .exit)) (now (holds .exit)) (now (counts .exit))) (now (list .exit)) (now (work .exit)) (now (out .exit)) (r .at) (r .from) ⌝ }
+{
+    match lines::read(line) {
+        Line::Does(command) => {
+            let reply = obeying::obey(
+                n,
+                states,
+                links,
+                leaders,
+                holds,
+                counts,
+                list,
+                work,
+                from,
+                command,
+            );
+            let next = write_reply(out, at, reply, list);
+            let low = obeying::lowest(command, reply, list, from);
+            Step {
+                at: next,
+                from: low,
+            }
+        }
+        Line::Bad => {
+            let next = answers::put_bad(out, at);
+            Step {
+                at: next,
+                from: from,
+            }
+        }
+    }
+}
+
+// How far a text was read and how much was written.
+pub struct Fed {
+    pub taken: usize,
+    pub written: usize,
+    pub from: usize,
+}
+
+// Where the line that starts at a place ends.
+pub fn line_end(text: &[u8], at: usize) -> usize
+    requires { ⌜ at ≤ length (now text) ⌝ }
+    ensures { λ r. ⌜ LineEnd (now (text .entry)) at r ⌝ }
+{
+    let mut i = at;
+    while i < text.len() {
+        if text[i] == 10 {
+            return i;
+        }
+        i += 1;
+    }
+    i
+}
+
+// Answers the whole lines at the front of a text, while out has room for the longest line.
+pub fn feed(
+    text: &[u8],
+    n: usize,
+    states: &mut [u8],
+    links: &mut [u16],
+    leaders: &mut [u16],
+    holds: &mut [u16],
+    counts: &mut [u32],
+    list: &mut [u16],
+    work: &mut [u32],
+    from: usize,
+    out: &mut [u8],
+) -> Fed
+    requires { ⌜ Stands n (storeOf n (now states) (now links) (now leaders) (now holds) (now counts)) (now list) (now work) from ⌝ }
+    ensures { λ r. ⌜ Feeding n (storeOf n (now (states .entry)) (now (links .entry)) (now (leaders .entry)) (now (holds .entry)) (now (counts .entry))) (now (text .entry))
+        (storeOf n (now (states .exit)) (now (links .exit)) (now (leaders .exit)) (now (holds .exit)) (now (counts .exit))) (now (list .exit)) (now (work .exit)) (now (out .exit)) (r .taken) (r .written) (r .from)
+        × Stopped (now (text .entry)) (now (out .exit)) (r .taken) (r .written) ⌝ }
+{
+    let mut at = 0;
+    let mut written = 0;
+    let mut low = from;
+    while 6208 <= out.len() - written {
+        let end = line_end(text, at);
+        if end == text.len() {
+            return Fed {
+                taken: at,
+                written: written,
+                from: low,
+            };
+        }
+        let step = answer(
+            &text[at..end],
+            n,
+            states,
+            links,
+            leaders,
+            holds,
+            counts,
+            list,
+            work,
+            low,
+            out,
+            written,
+        );
+        at = end + 1;
+        written = step.at;
+        low = step.from;
+    }
+    Fed {
+        taken: at,
+        written: written,
+        from: low,
+    }
+}
+
+// How many drafts, frozen pieces and groups there are.
+pub struct Totals {
+    pub drafts: u32,
+    pub frozen: u32,
+    pub groups: u32,
+}
+
+// 1 where the state is k, else 0.
+fn is_state(state: u8, k: u8) -> u32
+    ensures { λ r. ⌜ r ≡ onlyIf (eqb state k) 1 ⌝ }
+{
+    if state == k {
+        return 1;
+    }
+    0
+}
+
+// 1 where a piece of this state and leader leads a group, else 0.
+fn leads_one(state: u8, leader: u16, p: usize) -> u32
+    ensures { λ r. ⌜ r ≡ onlyIf (eqb state 2 & eqb leader p) 1 ⌝ }
+{
+    if state != 2 {
+        return 0;
+    }
+    let l = leader as usize;
+    if l == p {
+        return 1;
+    }
+    0
+}
+
+// Counts drafts, frozen pieces and groups.
+fn total(n: usize, states: &[u8], leaders: &[u16]) -> Totals
+    requires { ⌜ (n ≤ 1024) × (length (now states) ≡ n) × (length (now leaders) ≡ n) ⌝ }
+    ensures { λ r. ⌜ Totalled (now (states .entry)) (now (leaders .entry)) n (r .drafts) (r .frozen) (r .groups) ⌝ }
+{
+    let mut drafts: u32 = 0;
+    let mut frozen: u32 = 0;
+    let mut groups: u32 = 0;
+    let mut p = 0;
+    while p < n {
+        drafts += is_state(states[p], 1);
+        frozen += is_state(states[p], 2);
+        groups += leads_one(states[p], leaders[p], p);
+        p += 1;
+    }
+    Totals {
+        drafts: drafts,
+        frozen: frozen,
+        groups: groups,
+    }
+}
+
+// Writes the last line.
+fn close(
+    n: usize,
+    states: &[u8],
+    links: &[u16],
+    leaders: &[u16],
+    holds: &[u16],
+    counts: &[u32],
+    out: &mut [u8],
+    at: usize,
+) -> usize
+    requires { ⌜ Ready (storeOf n (now states) (now links) (now leaders) (now holds) (now counts)) × (at + 64 ≤ length (now out)) ⌝ }
+    ensures { λ r. ⌜ Wrote (now (out .entry)) at (endLine (storeOf n (now (states .entry)) (now (links .entry)) (now (leaders .entry)) (now (holds .entry)) (now (counts .entry)))) (now (out .exit)) r × (r ≤ at + 64) ⌝ }
+{
+    let all = total(n, states, leaders);
+    answers::put_end(out, at, all.drafts, all.frozen, all.groups)
+}
+
+// At the end of a trace: answers a last line without its end, if it has a byte, and writes the last line.
+pub fn end(
+    text: &[u8],
+    n: usize,
+    states: &mut [u8],
+    links: &mut [u16],
+    leaders: &mut [u16],
+    holds: &mut [u16],
+    counts: &mut [u32],
+    list: &mut [u16],
+    work: &mut [u32],
+    from: usize,
+    out: &mut [u8],
+) -> usize
+    requires { ⌜ Stands n (storeOf n (now states) (now links) (now leaders) (now holds) (now counts)) (now list) (now work) from × (6272 ≤ length (now out)) × NoEnd (now text) 0 (length (now text)) ⌝ }
+    ensures { λ r. ⌜ (r ≤ length (now (out .exit))) × (take r (now (out .exit)) ≡ outputOf (storeOf n (now (states .entry)) (now (links .entry)) (now (leaders .entry)) (now (holds .entry)) (now (counts .entry))) (linesFrom [] (now (text .entry)))) ⌝ }
+{
+    if text.len() == 0 {
+        return close(n, states, links, leaders, holds, counts, out, 0);
+    }
+    let step = answer(
+        text,
+        n,
+        states,
+        links,
+        leaders,
+        holds,
+        counts,
+        list,
+        work,
+        from,
+        out,
+        0,
+    );
+    let at = step.at;
+    close(n, states, links, leaders, holds, counts, out, at)
+}

@@ -1,0 +1,114 @@
+// Set on sound tables: draft P's link K becomes T.
+ghost use mathlib.Core.Path.{_≡_};
+ghost use mathlib.Core.Logic.{_⊎_};
+ghost use Prim.Native.Nat.{_≤_, _<_};
+ghost use lib.ListN.{length};
+ghost use Rattle.rules.specs.Limits.{none};
+ghost use Rattle.rules.specs.Calls.{answered, effect, storeOf, Ready, Did};
+ghost use Rattle.rules.specs.declared.Command.the-variants.{Set};
+ghost use Rattle.laws.specs.Commands.{Passes};
+ghost use Rattle.falling.specs.Steps.{base};
+ghost use Rattle.editing.specs.Verdicts.{Accepted};
+ghost use Rattle.editing.specs.Targets.{misnames, frees};
+use rules::Answer;
+use rules::Refusal;
+use rules::Store;
+
+// Whether P is N or more, K above 3, or T neither none nor below N.
+fn wrong_number(n: usize, p: u16, k: u16, t: u16) -> bool
+    ensures { λ r. ⌜ r ≡ misnames n p k t ⌝ }
+{
+    let at = p as usize;
+    if n <= at {
+        return true;
+    }
+    if 4 <= k {
+        return true;
+    }
+    if t == Store::NONE {
+        return false;
+    }
+    let to = t as usize;
+    if n <= to {
+        return true;
+    }
+    false
+}
+
+// Whether P or T is a free number.
+fn names_free(states: &[u8], p: usize, t: u16) -> bool
+    requires { ⌜ (p < length (now states)) × ((t ≡ none) ⊎ (t < length (now states))) ⌝ }
+    ensures { λ r. ⌜ r ≡ frees (now (states .entry)) p t ⌝ }
+{
+    if states[p] == 0 {
+        return true;
+    }
+    if t == Store::NONE {
+        return false;
+    }
+    let to = t as usize;
+    if states[to] == 0 {
+        return true;
+    }
+    false
+}
+
+// Draft p's link k becomes t; then every frozen piece no longer kept becomes free. Gives how many.
+fn set_place(
+    n: usize,
+    states: &mut [u8],
+    links: &mut [u16],
+    leaders: &mut [u16],
+    holds: &[u16],
+    counts: &mut [u32],
+    list: &mut [u16],
+    p: usize,
+    k: usize,
+    t: u16,
+) -> usize
+    requires { ⌜ Ready (storeOf n (now states) (now links) (now leaders) (now holds) (now counts)) × (n ≤ length (now list))
+        × Passes (base n (now states) (now links) (now holds)) (Set p k t) ⌝ }
+    ensures { λ r. ⌜ Accepted (Set p k t)
+        (storeOf n (now (states .entry)) (now (links .entry)) (now (leaders .entry)) (now (holds .entry)) (now (counts .entry))) (now (list .entry))
+        (storeOf n (now (states .exit)) (now (links .exit)) (now (leaders .exit)) (now (holds .entry)) (now (counts .exit))) (now (list .exit)) r ⌝ }
+{
+    let old = linking::relink(n, links, leaders, counts, p, k, t);
+    let first = letting_go::fall(n, states, leaders, counts, list, old, 0);
+    letting_go::let_go(n, states, links, leaders, counts, list, first)
+}
+
+// Draft P's link K becomes T: none, a draft, a frozen piece, P itself.
+pub fn set_link(
+    n: usize,
+    states: &mut [u8],
+    links: &mut [u16],
+    leaders: &mut [u16],
+    holds: &[u16],
+    counts: &mut [u32],
+    list: &mut [u16],
+    p: u16,
+    k: u16,
+    t: u16,
+) -> Answer
+    requires { ⌜ Ready (storeOf n (now states) (now links) (now leaders) (now holds) (now counts)) × (n ≤ length (now list)) ⌝ }
+    ensures { λ r. ⌜ Did (Set p k t)
+        (storeOf n (now (states .entry)) (now (links .entry)) (now (leaders .entry)) (now (holds .entry)) (now (counts .entry))) (now (list .entry))
+        (effect (answered r) (storeOf n (now (states .exit)) (now (links .exit)) (now (leaders .exit)) (now (holds .entry)) (now (counts .exit))) (now (list .exit))) ⌝ }
+{
+    if wrong_number(n, p, k, t) {
+        return Answer::Refused(Refusal::Number);
+    }
+    let at = p as usize;
+    if names_free(states, at, t) {
+        return Answer::Refused(Refusal::Free);
+    }
+    if states[at] == 2 {
+        return Answer::Refused(Refusal::State);
+    }
+    let place = k as usize;
+    let freed = set_place(n, states, links, leaders, holds, counts, list, at, place, t) as u16;
+    Answer::Done {
+        value: Store::NONE,
+        freed,
+    }
+}

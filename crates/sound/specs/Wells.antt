@@ -1,0 +1,115 @@
+-- A piece is well exactly if its holds and its four links are.
+use mathlib.Core.Path.{_≡_, subst}
+use mathlib.Core.Logic.{_⊎_, inl, inr, ⊎-elim}
+use mathlib.Core.List.{List}
+use Prim.Native.Nat.{ℕ, _+_, _*_, _≤_, _<_}
+use native.Mathlib.Omega.{arith}
+use lib.Dec.{eqb, leb}
+use Rattle.rules.specs.Limits.{mostHolds, none}
+use Rattle.rules.specs.Reach.{Link}
+use Rattle.rules.specs.Tables.{Base, state, linkAt, holdsOf}
+use Rattle.rules.specs.Words.{Frozen, Live, Well, wfree, wdraft, wfrozen}
+use Rattle.paths.specs.Ground.{_!_}
+use Rattle.paths.specs.Tools.{eq-or}
+use Rattle.sound.specs.Says.{Says, Below, says-eq, says-le}
+
+abbrev pub baseOf : ℕ → List ℕ → List ℕ → List ℕ → Base
+baseOf n states links holds = record { n = n; states = states; links = links; holds = holds }
+
+-- a draft's link may name a live piece, a frozen piece's a frozen one, and any link none
+abbrev pub LinkWell : ℕ → List ℕ → ℕ → ℕ → Type 0
+LinkWell n states s t = (t ≡ none) ⊎ ((t < n) × (((s ≡ 1) × ((states ! t ≡ 1) ⊎ (states ! t ≡ 2))) ⊎ ((s ≡ 2) × (states ! t ≡ 2))))
+
+-- 0 holds unless frozen, and at most 1,000
+abbrev pub HoldsWell : ℕ → ℕ → Type 0
+HoldsWell s h = ((s < 2) × (h ≡ 0)) ⊎ ((s ≡ 2) × (h ≤ mostHolds))
+
+abbrev pub LinksWell : ℕ → List ℕ → List ℕ → ℕ → ℕ → Type 0
+LinksWell n states links p k = Below (λ j. LinkWell n states (states ! p) (links ! (4 * p + j))) k
+
+-- ---- what each return of the tests says
+
+module _ (n : ℕ) (states : List ℕ) (s t : ℕ) (some : t ≡ none → ⊥) where
+  pub link-past : n ≤ t → LinkWell n states s t → ⊥
+  link-past h (inl e) = some e
+  link-past h (inr w) = omega (arith, w .0)
+
+  pub link-other : (s ≡ 1 → ⊥) → (s ≡ 2 → ⊥) → LinkWell n states s t → ⊥
+  link-other d f (inl e) = some e
+  link-other d f (inr w) = ⊎-elim (λ x. d (x .0)) (λ x. f (x .0)) (w .1)
+
+  pub link-frozen : t < n → s ≡ 2 → Says (LinkWell n states s t) (eqb (states ! t) 2)
+  link-frozen h e = says-eq (states ! t) 2 (λ x. inr (h, inr (e, x))) (λ w. ⊎-elim (λ z. absurd (some z)) (λ x. ⊎-elim (λ y. absurd (omega (arith, e, y .0))) (λ y. y .1) (x .1)) w)
+
+  pub link-draft : t < n → s ≡ 1 → (states ! t ≡ 1 → ⊥) → Says (LinkWell n states s t) (eqb (states ! t) 2)
+  link-draft h e d =
+      says-eq (states ! t) 2 (λ x. inr (h, inl (e, inr x)))
+      (λ w. ⊎-elim (λ z. absurd (some z)) (λ x. ⊎-elim (λ y. ⊎-elim (λ u. absurd (d u)) (λ u. u) (y .1)) (λ y. y .1) (x .1)) w)
+
+module _ (s h : ℕ) where
+  pub holds-frozen : s ≡ 2 → Says (HoldsWell s h) (leb h mostHolds)
+  holds-frozen e = says-le h mostHolds (λ l. inr (e, l)) (λ w. ⊎-elim (λ x. absurd (omega (arith, e, x .0))) (λ x. x .1) w)
+
+  pub holds-wrong : 2 < s → HoldsWell s h → ⊥
+  holds-wrong l w = ⊎-elim (λ x. omega (arith, x .0)) (λ x. omega (arith, x .0)) w
+
+  pub holds-other : s ≤ 2 → (s ≡ 2 → ⊥) → Says (HoldsWell s h) (eqb h 0)
+  holds-other l d = says-eq h 0 (λ e. inl (omega (arith, d), e)) (λ w. ⊎-elim (λ x. x .1) (λ x. absurd (d (x .0))) w)
+
+-- ---- the words of 01
+
+module _ (b : Base) where
+  draft-link : (t : ℕ) → LinkWell (b .n) (b .states) 1 t → (t ≡ none) ⊎ Live b t
+  unfolding state
+  draft-link t (inl e) = inl e
+  draft-link t (inr w) =
+      inr (⊎-elim
+      (λ d. ⊎-elim (λ x. inl (record { below = w .0; is = x })) (λ x. inr (record { below = w .0; is = x })) (d .1))
+      (λ f. absurd (let z = f .0 in omega arith))
+      (w .1))
+
+  frozen-link : (t : ℕ) → LinkWell (b .n) (b .states) 2 t → (t ≡ none) ⊎ Frozen b t
+  unfolding state
+  frozen-link t (inl e) = inl e
+  frozen-link t (inr w) = inr (⊎-elim (λ d. absurd (let z = d .0 in omega arith)) (λ f. record { below = w .0; is = f .1 }) (w .1))
+
+  free-link : (t : ℕ) → LinkWell (b .n) (b .states) 0 t → t ≡ none
+  free-link t (inl e) = e
+  free-link t (inr w) = absurd (⊎-elim (λ d. let z = d .0 in omega arith) (λ f. let z = f .0 in omega arith) (w .1))
+
+  pub →well : (p : ℕ) → HoldsWell (b .states ! p) (b .holds ! p) → LinksWell (b .n) (b .states) (b .links) p 4 → Well b p
+  unfolding state linkAt holdsOf
+  →well p (inl h) ls =
+      ⊎-elim
+      (λ e. wfree (record { is = e; links = λ k l. free-link (linkAt b p k) (subst (λ (s : ℕ). LinkWell (b .n) (b .states) s (linkAt b p k)) e (ls k l)); holds = h .1 }))
+      (λ d.
+      let e : state b p ≡ 1 = omega (arith, h .0, d) in
+      wdraft (record { is = e; links = λ k l. draft-link (linkAt b p k) (subst (λ (s : ℕ). LinkWell (b .n) (b .states) s (linkAt b p k)) e (ls k l)); holds = h .1 }))
+      (eq-or (state b p) 0)
+  →well p (inr h) ls =
+      wfrozen (record { is = h .0; links = λ k l. frozen-link (linkAt b p k) (subst (λ (s : ℕ). LinkWell (b .n) (b .states) s (linkAt b p k)) (h .0) (ls k l)); holds = h .1 })
+
+  pub holds-of : (p : ℕ) → Well b p → HoldsWell (b .states ! p) (b .holds ! p)
+  unfolding state holdsOf
+  holds-of p (wfree w) = inl (omega (arith, w .is), w .holds)
+  holds-of p (wdraft w) = inl (omega (arith, w .is), w .holds)
+  holds-of p (wfrozen w) = inr (w .is, w .holds)
+
+  pub links-of : (p : ℕ) → Well b p → LinksWell (b .n) (b .states) (b .links) p 4
+  unfolding state linkAt
+  links-of p (wfree w) k l = inl (w .links k l)
+  links-of p (wdraft w) k l =
+      ⊎-elim (λ e. inl e) (λ v. inr (⊎-elim (λ d. (d .below, inl (w .is, inl (d .is)))) (λ f. (f .below, inl (w .is, inr (f .is)))) v)) (w .links k l)
+  links-of p (wfrozen w) k l = ⊎-elim (λ e. inl e) (λ f. inr (f .below, inr (w .is, f .is))) (w .links k l)
+
+  -- what a live piece names is live
+  pub live-on : b .n ≤ 1024 → ((p : ℕ) → p < b .n → Well b p) → (r q : ℕ) → Live b r → Link (b .n) (linkAt b) r q → Live b q
+  live-on small wells r q v l = go (wells r (l .from))
+    where
+      named : (t : ℕ) → t ≡ q → (t ≡ none) ⊎ Live b t → Live b q
+      named t e = ⊎-elim (λ z. absurd (omega (arith, l .to))) (λ x. subst (Live b) e x)
+
+      go : Well b r → Live b q
+      go (wfree w) = absurd (⊎-elim (λ d. omega (arith, d .is, w .is)) (λ f. omega (arith, f .is, w .is)) v)
+      go (wdraft w) = named (linkAt b r (l .place)) (l .names) (w .links (l .place) (l .inside))
+      go (wfrozen w) = named (linkAt b r (l .place)) (l .names) (⊎-elim (λ z. inl z) (λ f. inr (inr f)) (w .links (l .place) (l .inside)))

@@ -1,0 +1,216 @@
+// The nine public calls: sizes, soundness, then the work.
+ghost use mathlib.Core.List.{[]};
+ghost use Rattle.rules.specs.Calls.{Call, start, does, check, storeOf, areasOf, answered, saw, checked, outcome, Promise};
+ghost use Rattle.rules.specs.declared.Command.the-variants.{New, Set, Freeze, Acquire, Release, Bin, Look};
+use entering::Entry;
+use rules::Answer;
+use rules::Checked;
+use rules::Refusal;
+use rules::Seen;
+use rules::Store;
+
+// Any table contents become the empty store.
+pub fn start(
+    n: usize,
+    states: &mut [u8],
+    links: &mut [u16],
+    leaders: &mut [u16],
+    holds: &mut [u16],
+    counts: &mut [u32],
+) -> Answer
+    ensures { λ r. ⌜ Promise start
+        (areasOf (storeOf n (now (states .entry)) (now (links .entry)) (now (leaders .entry)) (now (holds .entry)) (now (counts .entry))) [] [])
+        (outcome (answered r) (areasOf (storeOf n (now (states .exit)) (now (links .exit)) (now (leaders .exit)) (now (holds .exit)) (now (counts .exit))) [] [])) ⌝ }
+{
+    if !areas::sized(n, states, links, leaders, holds, counts) {
+        return Answer::Refused(Refusal::Size);
+    }
+    areas::fill_u8(states, n, 0);
+    areas::fill_u16(links, 4 * n, Store::NONE);
+    areas::fill_u16(leaders, n, Store::NONE);
+    areas::fill_u16(holds, n, 0);
+    areas::fill_u32(counts, n, 0);
+    Store::fresh()
+}
+
+// The lowest free number becomes a draft with four empty links; its number is the value.
+pub fn new(
+    n: usize,
+    states: &mut [u8],
+    links: &[u16],
+    leaders: &[u16],
+    holds: &[u16],
+    counts: &[u32],
+    list: &[u16],
+    work: &mut [u32],
+) -> Answer
+    ensures { λ r. ⌜ Promise (does New)
+        (areasOf (storeOf n (now (states .entry)) (now (links .entry)) (now (leaders .entry)) (now (holds .entry)) (now (counts .entry))) (now (list .entry)) (now (work .entry)))
+        (outcome (answered r) (areasOf (storeOf n (now (states .exit)) (now (links .entry)) (now (leaders .entry)) (now (holds .entry)) (now (counts .entry))) (now (list .entry)) (now (work .exit)))) ⌝ }
+{
+    match entering::enter(n, states, links, leaders, holds, counts, list.len(), work) {
+        Entry::Short => Answer::Refused(Refusal::Size),
+        Entry::Flawed => Answer::Refused(Refusal::Unsound),
+        Entry::Sound => giving::new(n, states, links, leaders, holds, counts, 0),
+    }
+}
+
+// Draft P's link K becomes T (none, a draft, a frozen piece, P itself); then every frozen piece no longer kept becomes free.
+pub fn set(
+    n: usize,
+    states: &mut [u8],
+    links: &mut [u16],
+    leaders: &mut [u16],
+    holds: &[u16],
+    counts: &mut [u32],
+    list: &mut [u16],
+    work: &mut [u32],
+    p: u16,
+    k: u16,
+    t: u16,
+) -> Answer
+    ensures { λ r. ⌜ Promise (does (Set p k t))
+        (areasOf (storeOf n (now (states .entry)) (now (links .entry)) (now (leaders .entry)) (now (holds .entry)) (now (counts .entry))) (now (list .entry)) (now (work .entry)))
+        (outcome (answered r) (areasOf (storeOf n (now (states .exit)) (now (links .exit)) (now (leaders .exit)) (now (holds .entry)) (now (counts .exit))) (now (list .exit)) (now (work .exit)))) ⌝ }
+{
+    match entering::enter(n, states, links, leaders, holds, counts, list.len(), work) {
+        Entry::Short => Answer::Refused(Refusal::Size),
+        Entry::Flawed => Answer::Refused(Refusal::Unsound),
+        Entry::Sound => setting::set_link(n, states, links, leaders, holds, counts, list, p, k, t),
+    }
+}
+
+// P and every draft it reaches become frozen; P gets one hold. If P is frozen already it only gets one more hold.
+pub fn freeze(
+    n: usize,
+    states: &mut [u8],
+    links: &[u16],
+    leaders: &mut [u16],
+    holds: &mut [u16],
+    counts: &mut [u32],
+    list: &[u16],
+    work: &mut [u32],
+    p: u16,
+) -> Answer
+    ensures { λ r. ⌜ Promise (does (Freeze p))
+        (areasOf (storeOf n (now (states .entry)) (now (links .entry)) (now (leaders .entry)) (now (holds .entry)) (now (counts .entry))) (now (list .entry)) (now (work .entry)))
+        (outcome (answered r) (areasOf (storeOf n (now (states .exit)) (now (links .entry)) (now (leaders .exit)) (now (holds .exit)) (now (counts .exit))) (now (list .entry)) (now (work .exit)))) ⌝ }
+{
+    match entering::enter(n, states, links, leaders, holds, counts, list.len(), work) {
+        Entry::Short => Answer::Refused(Refusal::Size),
+        Entry::Flawed => Answer::Refused(Refusal::Unsound),
+        Entry::Sound => freezing::freeze(n, states, links, leaders, holds, counts, work, p),
+    }
+}
+
+// One hold more on frozen P.
+pub fn acquire(
+    n: usize,
+    states: &[u8],
+    links: &[u16],
+    leaders: &[u16],
+    holds: &mut [u16],
+    counts: &mut [u32],
+    list: &[u16],
+    work: &mut [u32],
+    p: u16,
+) -> Answer
+    ensures { λ r. ⌜ Promise (does (Acquire p))
+        (areasOf (storeOf n (now (states .entry)) (now (links .entry)) (now (leaders .entry)) (now (holds .entry)) (now (counts .entry))) (now (list .entry)) (now (work .entry)))
+        (outcome (answered r) (areasOf (storeOf n (now (states .entry)) (now (links .entry)) (now (leaders .entry)) (now (holds .exit)) (now (counts .exit))) (now (list .entry)) (now (work .exit)))) ⌝ }
+{
+    match entering::enter(n, states, links, leaders, holds, counts, list.len(), work) {
+        Entry::Short => Answer::Refused(Refusal::Size),
+        Entry::Flawed => Answer::Refused(Refusal::Unsound),
+        Entry::Sound => holding::acquire(n, states, links, leaders, holds, counts, p),
+    }
+}
+
+// One hold less on frozen P; then every frozen piece no longer kept becomes free.
+pub fn release(
+    n: usize,
+    states: &mut [u8],
+    links: &mut [u16],
+    leaders: &mut [u16],
+    holds: &mut [u16],
+    counts: &mut [u32],
+    list: &mut [u16],
+    work: &mut [u32],
+    p: u16,
+) -> Answer
+    ensures { λ r. ⌜ Promise (does (Release p))
+        (areasOf (storeOf n (now (states .entry)) (now (links .entry)) (now (leaders .entry)) (now (holds .entry)) (now (counts .entry))) (now (list .entry)) (now (work .entry)))
+        (outcome (answered r) (areasOf (storeOf n (now (states .exit)) (now (links .exit)) (now (leaders .exit)) (now (holds .exit)) (now (counts .exit))) (now (list .exit)) (now (work .exit)))) ⌝ }
+{
+    match entering::enter(n, states, links, leaders, holds, counts, list.len(), work) {
+        Entry::Short => Answer::Refused(Refusal::Size),
+        Entry::Flawed => Answer::Refused(Refusal::Unsound),
+        Entry::Sound => holding::release(n, states, links, leaders, holds, counts, list, p),
+    }
+}
+
+// Draft P becomes free; then every frozen piece no longer kept becomes free.
+pub fn bin(
+    n: usize,
+    states: &mut [u8],
+    links: &mut [u16],
+    leaders: &mut [u16],
+    holds: &[u16],
+    counts: &mut [u32],
+    list: &mut [u16],
+    work: &mut [u32],
+    p: u16,
+) -> Answer
+    ensures { λ r. ⌜ Promise (does (Bin p))
+        (areasOf (storeOf n (now (states .entry)) (now (links .entry)) (now (leaders .entry)) (now (holds .entry)) (now (counts .entry))) (now (list .entry)) (now (work .entry)))
+        (outcome (answered r) (areasOf (storeOf n (now (states .exit)) (now (links .exit)) (now (leaders .exit)) (now (holds .entry)) (now (counts .exit))) (now (list .exit)) (now (work .exit)))) ⌝ }
+{
+    match entering::enter(n, states, links, leaders, holds, counts, list.len(), work) {
+        Entry::Short => Answer::Refused(Refusal::Size),
+        Entry::Flawed => Answer::Refused(Refusal::Unsound),
+        Entry::Sound => binning::bin(n, states, links, leaders, holds, counts, list, p),
+    }
+}
+
+// State, leader, count of its group, holds of P; for a draft 1, none, 0, 0.
+pub fn look(
+    n: usize,
+    states: &[u8],
+    links: &[u16],
+    leaders: &[u16],
+    holds: &[u16],
+    counts: &[u32],
+    work: &mut [u32],
+    p: u16,
+) -> Seen
+    ensures { λ r. ⌜ Promise (does (Look p))
+        (areasOf (storeOf n (now (states .entry)) (now (links .entry)) (now (leaders .entry)) (now (holds .entry)) (now (counts .entry))) [] (now (work .entry)))
+        (outcome (saw r) (areasOf (storeOf n (now (states .entry)) (now (links .entry)) (now (leaders .entry)) (now (holds .entry)) (now (counts .entry))) [] (now (work .exit)))) ⌝ }
+{
+    match entering::enter(n, states, links, leaders, holds, counts, n, work) {
+        Entry::Short => Seen::Unseen(Refusal::Size),
+        Entry::Flawed => Seen::Unseen(Refusal::Unsound),
+        Entry::Sound => giving::look(n, states, links, leaders, holds, counts, p),
+    }
+}
+
+// Yes exactly if the tables are sound.
+pub fn check(
+    n: usize,
+    states: &[u8],
+    links: &[u16],
+    leaders: &[u16],
+    holds: &[u16],
+    counts: &[u32],
+    work: &mut [u32],
+) -> Checked
+    ensures { λ r. ⌜ Promise check
+        (areasOf (storeOf n (now (states .entry)) (now (links .entry)) (now (leaders .entry)) (now (holds .entry)) (now (counts .entry))) [] (now (work .entry)))
+        (outcome (checked r) (areasOf (storeOf n (now (states .entry)) (now (links .entry)) (now (leaders .entry)) (now (holds .entry)) (now (counts .entry))) [] (now (work .exit)))) ⌝ }
+{
+    match entering::enter(n, states, links, leaders, holds, counts, n, work) {
+        Entry::Short => Checked::Unchecked(Refusal::Size),
+        Entry::Flawed => Checked::No,
+        Entry::Sound => Checked::Yes,
+    }
+}

@@ -1,0 +1,72 @@
+/*
+ * A drawing program's use of the store: a front and a back that name each other are drawn up,
+ * handed in, looked at and released; once by calls, once by a lent trace.
+ */
+#include "pieces.h"
+#include <stdio.h>
+#include <stdlib.h>
+#include <string.h>
+
+enum { N = 16 };
+
+static uint8_t states[N];
+static uint16_t links[4 * N], leaders[N], holds[N], list[N];
+static uint32_t counts[N], work[8 * N];
+
+#define STORE N, states, N, links, 4 * N, leaders, N, holds, N, counts, N
+#define AREAS STORE, list, N, work, 8 * N
+
+/* The answer of a call that is to be accepted. */
+static uint64_t accepted(const char *call, uint64_t answer) {
+    if (pieces_refusal(answer) != PIECES_ACCEPTED) {
+        fprintf(stderr, "%s: refused, %u\n", call, pieces_refusal(answer));
+        exit(1);
+    }
+    return answer;
+}
+
+static void look(const char *name, uint16_t p) {
+    uint64_t looked = accepted("look", pieces_look(STORE, work, 8 * N, p));
+    printf("%s is piece %u: state %u, leader ", name, p, pieces_state(looked));
+    if (pieces_leader(looked) == PIECES_NONE) printf("-");
+    else printf("%u", pieces_leader(looked));
+    printf(", count %u, holds %u\n", pieces_count(looked), pieces_holds(looked));
+}
+
+static void by_calls(void) {
+    accepted("start", pieces_start(STORE));
+    uint16_t front = pieces_value(accepted("new", pieces_new(AREAS)));
+    uint16_t back = pieces_value(accepted("new", pieces_new(AREAS)));
+    accepted("set", pieces_set(AREAS, front, 0, back));
+    accepted("set", pieces_set(AREAS, back, 0, front));
+    look("front", front);
+
+    accepted("freeze", pieces_freeze(AREAS, front));
+    look("front", front);
+    look("back", back);
+    printf("release of back: refused, %u\n", pieces_refusal(pieces_release(AREAS, back)));
+
+    uint32_t freed = pieces_freed(accepted("release", pieces_release(AREAS, front)));
+    printf("release of front: freed %u:", freed);
+    for (uint32_t i = 0; i < freed; i++) printf(" %u", list[i]);
+    printf("\nsound: %s\n", pieces_sound(pieces_check(STORE, work, 8 * N)) ? "yes" : "no");
+}
+
+static void by_trace(void) {
+    static const char trace[] = "n\nn\ns 0 0 1\ns 1 0 0\nl 0\nf 0\nl 0\nl 1\nr 1\nr 0\n";
+    static uint8_t room[1000];
+    uint64_t length = pieces_trace((const uint8_t *)trace, strlen(trace), room, sizeof room);
+    if (pieces_trace_refusal(length)) {
+        fprintf(stderr, "trace: refused, %u\n", pieces_trace_refusal(length));
+        exit(1);
+    }
+    fwrite(room, 1, length, stdout);
+}
+
+int main(void) {
+    printf("By calls:\n");
+    by_calls();
+    printf("By a lent trace:\n");
+    by_trace();
+    return 0;
+}

@@ -1,0 +1,158 @@
+//! Writes one long trace to a file, to be timed: of a profile, or of one command over and over.
+
+use compare::author::Author;
+use compare::profiles::{trace, Profile, PROFILES};
+use compare::random::Random;
+use independent::tables::{CAPACITY, NONE};
+use independent::trace::lines;
+use std::process::ExitCode;
+
+const USAGE: &str = "usage: traces --list | traces PROFILE FILE [LINES] [SEED]
+  PROFILE is a name of the list, or `chains of M` with M pieces each. The trace has LINES lines
+  or a few more, 200000 if not given; one of long lines ends at 16 MB.";
+
+/// Lines of a profile that differ; beyond them the trace repeats itself.
+const DIFFERENT: usize = 200_000;
+const BYTES: usize = 16 << 20;
+
+/// The pieces below are frozen in rings of 8, those from it on are drafts.
+const HALF: usize = CAPACITY / 2;
+
+/// One command or two over and over, by name, with the next line on a full table.
+type Only = (&'static str, fn(&mut Random, &mut Vec<usize>) -> String);
+
+const ONLY: &[Only] = &[
+    ("only look", |random, _| format!("l {}", random.below(CAPACITY))),
+    ("only acquire and release", |random, held| hold(random, held, "a")),
+    ("only freeze again and release", |random, held| hold(random, held, "f")),
+    ("only set, to drafts or none", |random, _| {
+        let (p, k, t) = (draft(random), random.below(4), draft(random));
+        let t = if random.once_in(8) { "-".to_string() } else { t.to_string() };
+        format!("s {p} {k} {t}")
+    }),
+    ("only set, to frozen pieces", |random, _| {
+        format!("s {} {} {}", draft(random), random.below(4), random.below(HALF))
+    }),
+    ("only new, refused", |_, _| "n".to_string()),
+    ("only refused lines", |random, _| match random.below(5) {
+        0 => format!("a {}", draft(random)),
+        1 => format!("b {}", random.below(HALF)),
+        2 => format!("r {}", 8 * random.below(HALF / 8) + 1),
+        3 => format!("l {}", random.from(CAPACITY, 65_535)),
+        _ => format!("s {} 0 0", random.below(HALF)),
+    }),
+    ("only bad lines", |random, _| {
+        random.pick(&["", "f", "n 0", "s 0 0", "s 0 0 1 ", "a  7", "r 65536", "q 1"]).to_string()
+    }),
+    ("only new and bin", |random, held| match held.pop() {
+        Some(_) => "n".to_string(),
+        None => {
+            held.push(0);
+            format!("b {}", draft(random))
+        }
+    }),
+];
+
+fn draft(random: &mut Random) -> usize {
+    random.from(HALF, CAPACITY - 1)
+}
+
+/// One hold more on any frozen piece, or one of those holds less.
+fn hold(random: &mut Random, held: &mut Vec<usize>, more: &str) -> String {
+    if held.len() > HALF || (!held.is_empty() && random.once_in(2)) {
+        let last = held.swap_remove(random.below(held.len()));
+        return format!("r {last}");
+    }
+    let p = random.below(HALF);
+    held.push(p);
+    format!("{more} {p}")
+}
+
+/// A full table, half of it frozen, then the lines.
+fn only(next: fn(&mut Random, &mut Vec<usize>) -> String, seed: u64, count: usize) -> Vec<u8> {
+    let mut text = vec!["n".to_string(); CAPACITY];
+    for p in 0..HALF {
+        text.push(format!("s {p} 0 {}", p / 8 * 8 + (p + 1) % 8));
+    }
+    text.extend((0..HALF).step_by(8).map(|p| format!("f {p}")));
+    let (mut random, mut held) = (Random::new(seed), Vec::new());
+    text.extend((0..count).map(|_| next(&mut random, &mut held)));
+    (text.join("\n") + "\n").into_bytes()
+}
+
+/// How many times a part is needed for the whole.
+fn times(whole: usize, part: usize) -> usize {
+    (whole + part - 1) / part
+}
+
+/// Chains of that many pieces, each frozen and let go at once.
+fn chains(size: usize, count: usize) -> Vec<u8> {
+    let mut text = vec!["n".to_string(); size];
+    text.extend((1..size).map(|p| format!("s {} 0 {p}", p - 1)));
+    text.extend(["f 0".to_string(), "r 0".to_string()]);
+    (text.join("\n") + "\n").into_bytes().repeat(times(count, text.len()))
+}
+
+/// A trace of the profile, followed by what empties the store.
+fn emptied(profile: &Profile, seed: u64) -> Vec<u8> {
+    let mut author = Author::new(seed);
+    lines(&trace(profile, seed)).for_each(|line| author.write(line));
+    while let Some(p) = author.one_held() {
+        author.release(p);
+    }
+    while let Some(p) = author.one_draft() {
+        (0..4).for_each(|k| author.set(p, k, NONE));
+        author.bin(p);
+    }
+    author.trace
+}
+
+/// Traces of the profile one after another, each from an empty store.
+fn profile(profile: &Profile, seed: u64, count: usize) -> Vec<u8> {
+    let mut random = profile.random(seed);
+    let (mut text, mut written) = (Vec::new(), 0);
+    while written < count.min(DIFFERENT) && text.len() < BYTES {
+        let part = emptied(profile, random.bits());
+        written += lines(&part).count();
+        text.extend(part);
+    }
+    text.repeat(times(count, written).min(times(BYTES, text.len())))
+}
+
+/// The trace of that name, none if there is no such name.
+fn named(name: &str, seed: u64, count: usize) -> Option<Vec<u8>> {
+    if let Some(size) = name.strip_prefix("chains of ").and_then(|size| size.parse().ok()) {
+        return (1..=CAPACITY).contains(&size).then(|| chains(size, count));
+    }
+    if let Some((_, next)) = ONLY.iter().find(|(only, _)| *only == name) {
+        return Some(only(*next, seed, count));
+    }
+    PROFILES.iter().find(|p| p.name == name).map(|found| profile(found, seed, count))
+}
+
+fn write(words: &[String]) -> Option<std::io::Result<()>> {
+    let (name, file) = (words.first()?, words.get(1)?);
+    let count = words.get(2).map_or(Some(DIFFERENT), |word| word.parse().ok())?;
+    let seed = words.get(3).map_or(Some(1), |word| word.parse().ok())?;
+    Some(std::fs::write(file, named(name, seed, count)?))
+}
+
+fn main() -> ExitCode {
+    let words: Vec<String> = std::env::args().skip(1).collect();
+    if words == ["--list"] {
+        ONLY.iter().for_each(|(name, _)| println!("{name}"));
+        PROFILES.iter().for_each(|profile| println!("{}", profile.name));
+        return ExitCode::SUCCESS;
+    }
+    match write(&words) {
+        Some(Ok(())) => ExitCode::SUCCESS,
+        Some(Err(error)) => {
+            eprintln!("{error}");
+            ExitCode::FAILURE
+        }
+        None => {
+            eprintln!("{USAGE}");
+            ExitCode::from(2)
+        }
+    }
+}

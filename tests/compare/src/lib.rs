@@ -1,0 +1,7 @@
+//! Random traces by profile, and what a trace program makes of them.
+
+pub mod account;
+pub mod author;
+pub mod profiles;
+pub mod program;
+pub mod random;

@@ -1,0 +1,94 @@
+//! Profiles of refusals and of holds up to their limit.
+
+use super::shapes::{drafts, freeze_and_look, let_go, ring};
+use super::steps::step;
+use crate::author::Author;
+use independent::tables::{CAPACITY, HOLDS, NONE};
+
+/// A number from N on that is not none.
+fn too_high(author: &mut Author) -> u16 {
+    author.random.pick(&[1_024, 1_025, 4_096, 32_768, 65_534])
+}
+
+/// Any number at all, mostly a live or a free piece.
+fn any(author: &mut Author) -> u16 {
+    match author.random.below(6) {
+        0 => too_high(author),
+        1 => NONE,
+        2 => author.one_free().unwrap_or(0),
+        3 => author.one_draft().unwrap_or(0),
+        _ => author.one_frozen().unwrap_or(0),
+    }
+}
+
+/// A command on any numbers, so that several refusals may apply at once.
+fn any_command(author: &mut Author) {
+    let (p, t) = (any(author), any(author));
+    let k = author.random.pick(&[0, 1, 2, 3, 3, 4, 5, 65_535]);
+    match author.random.below(6) {
+        0 => author.freeze(p),
+        1 => author.acquire(p),
+        2 => author.release(p),
+        3 => author.bin(p),
+        4 => author.look(p),
+        _ => author.set(p, k, t),
+    }
+}
+
+/// Any commands around a piece with 1,000 holds, at last in a full table.
+pub fn refusals(author: &mut Author) {
+    let pieces = drafts(author, 6);
+    ring(author, &pieces[..3], 0);
+    author.freeze(pieces[0]);
+    (1..HOLDS).for_each(|_| author.acquire(pieces[0]));
+    author.set(pieces[3], 0, pieces[4]);
+    for _ in 0..600 {
+        match author.random.below(8) {
+            0 => author.acquire(pieces[0]),
+            1 => author.freeze(pieces[0]),
+            2 => author.release(pieces[1]),
+            3 => author.bin(pieces[4]),
+            4 => step(author, 12),
+            _ => any_command(author),
+        }
+    }
+    while author.live() < CAPACITY {
+        author.make();
+    }
+    for _ in 0..100 {
+        author.make();
+        any_command(author);
+    }
+}
+
+/// Holds up to 1,000 and past it on members of one group, by acquire and by freeze.
+pub fn holds(author: &mut Author) {
+    let size = author.random.from(1, 3);
+    let pieces = drafts(author, size);
+    ring(author, &pieces, 0);
+    freeze_and_look(author, &pieces);
+    for &p in &pieces {
+        while author.holds(p) < HOLDS {
+            if author.random.once_in(3) {
+                author.freeze(p)
+            } else {
+                author.acquire(p)
+            }
+        }
+        author.acquire(p);
+        author.freeze(p);
+        author.look(p);
+    }
+    for _ in 0..100 {
+        let p = author.random.pick(&pieces);
+        if author.random.once_in(2) {
+            author.release(p)
+        } else {
+            author.acquire(p)
+        }
+    }
+    pieces.iter().for_each(|&p| author.look(p));
+    if author.random.once_in(2) {
+        let_go(author, &pieces);
+    }
+}

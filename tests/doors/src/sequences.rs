@@ -1,0 +1,76 @@
+//! Calls one after the other on sound stores.
+
+use crate::call::Call;
+use crate::judge::{Judge, YES};
+use crate::near::NEAR_MISSES;
+use crate::stores::{any_call, chain, empty, soil, sound};
+use compare::random::Random;
+
+/// Calls one after the other from an empty store, refused ones included.
+pub fn sequences(random: &mut Random, judge: &mut Judge) -> Result<(), String> {
+    for n in [1, 2, 3, 4, 5, 6, 8, 12] {
+        let mut tables = empty(random, n);
+        judge.tables += 1;
+        judge.call(&mut tables, Call::Start)?;
+        for _ in 0..100 {
+            soil(random, &mut tables);
+            judge.call(&mut tables, any_call(random, n))?;
+        }
+    }
+    Ok(())
+}
+
+/// Holds up to 1,000 by acquire and freeze, past it, and down again.
+pub fn limit(random: &mut Random, judge: &mut Judge) -> Result<(), String> {
+    let mut tables = empty(random, 2);
+    judge.tables += 1;
+    judge.call(&mut tables, Call::New)?;
+    for _ in 0..1_010 {
+        soil(random, &mut tables);
+        judge.call(&mut tables, random.pick(&[Call::Acquire(0), Call::Freeze(0)]))?;
+    }
+    for _ in 0..1_002 {
+        judge.call(&mut tables, Call::Look(0))?;
+        judge.call(&mut tables, Call::Release(0))?;
+    }
+    Ok(())
+}
+
+/// Calls one after the other on large stores, and their near misses.
+pub fn large(random: &mut Random, judge: &mut Judge) -> Result<(), String> {
+    for n in [255, 256, 257, 1_023, 1_024] {
+        let mut tables = sound(random, n);
+        judge.tables += 1;
+        if judge.call(&mut tables, Call::Check)? != YES {
+            return Err("a store made by calls is not sound".to_string());
+        }
+        for (name, spoil) in NEAR_MISSES {
+            let mut spoiled = tables.clone();
+            soil(random, &mut spoiled);
+            if spoil(&mut spoiled, random).is_some() {
+                judge.name = name;
+                judge.each(&spoiled, &[Call::Check, any_call(random, n)])?;
+            }
+        }
+        judge.name = "";
+        for _ in 0..10 {
+            soil(random, &mut tables);
+            judge.call(&mut tables, any_call(random, n))?;
+        }
+    }
+    Ok(())
+}
+
+/// Chains and rings through a whole store, let go at once.
+pub fn chains(random: &mut Random, judge: &mut Judge) -> Result<(), String> {
+    for (n, ring) in [(1_024, false), (1_024, true), (1_023, false), (2, true)] {
+        let mut tables = chain(n, ring);
+        judge.tables += 1;
+        let last = n as u16 - 1;
+        for call in [Call::Check, Call::Look(last), Call::Release(0), Call::New, Call::Check] {
+            soil(random, &mut tables);
+            judge.call(&mut tables, call)?;
+        }
+    }
+    Ok(())
+}
