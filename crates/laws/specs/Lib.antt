@@ -15,3 +15,4 @@ pub mod Held
 pub mod History
 pub mod Freed
 pub mod Demand3
+pub mod Decided
