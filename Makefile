@@ -1,4 +1,6 @@
 # Acornskiff: what to run. `make help` lists it.
+SHELL := /bin/bash
+.SHELLFLAGS := -o pipefail -c
 SECONDS ?= 60
 
 .PHONY: help demo test example compare bench clean
@@ -13,10 +15,9 @@ help:
 
 demo:
 	@echo "proving and building the trace program: a few minutes the first time"
-	@rt check trace > target-demo.log 2>&1 || { tail -n 20 target-demo.log; rm -f target-demo.log; exit 1; }
-	@tail -n 1 target-demo.log; rm -f target-demo.log
-	@echo "the worked trace:"
-	@tests/x86 target/bin/trace < crates/trace/stdin
+	@rt check trace 2>&1 | grep --line-buffered '^rt:'
+	@echo "the worked trace, input left:"
+	@paste crates/trace/stdin <(tests/x86 target/bin/trace < crates/trace/stdin)
 
 test:
 	@.ci/test
