@@ -13,6 +13,9 @@ TRACES = os.path.join(OUT, "traces")
 TESTS = os.path.join(ROOT, "target", "tests")
 NEED, GCC_FOR, X86 = (os.path.join(ROOT, "tests", name) for name in ("need", "gcc-for", "x86"))
 FLAGS = ["-std=c11", "-O3", "-Wall", "-Wextra"]
+# Where instructions are counted, the C library fills and copies without `rep`, which counts a byte as one.
+COUNTED = dict(os.environ, GLIBC_TUNABLES="glibc.cpu.x86_rep_stosb_threshold=0x40000000:"
+               "glibc.cpu.x86_rep_movsb_threshold=0x40000000")
 
 
 def say(what):
@@ -136,7 +139,7 @@ def instructions(counting, program, path):
         words, sign = counting + ["--callgrind-out-file=/dev/null", program], "Collected :"
     with open(path, "rb") as source:
         done = subprocess.run(words, stdin=source, stdout=subprocess.DEVNULL,
-                              stderr=subprocess.PIPE, text=True)
+                              stderr=subprocess.PIPE, text=True, env=COUNTED)
     counted = [line for line in done.stderr.splitlines() if sign in line]
     return int(counted[0].split()[-1]) if counted else None
 
@@ -171,7 +174,7 @@ def call_instructions(counting, drive):
 
 def marked(counting, drive):
     """The instructions between two marks each, less those between marks about nothing."""
-    done = run(counting + command(drive)[1:] + ["count"])
+    done = run(counting + command(drive)[1:] + ["count"], env=COUNTED)
     names = [tuple(line.split("/")) for line in done.stdout.splitlines()]
     marks = [int(line.split()[1]) for line in done.stderr.splitlines() if line.startswith("mark: ")]
     between = [end - begin for begin, end in zip(marks[::2], marks[1::2])]
@@ -185,7 +188,8 @@ def collected(counting, drive):
     for name in os.listdir(folder):
         os.remove(os.path.join(folder, name))
     run(counting + ["-q", "--collect-atstart=no",
-                    "--callgrind-out-file=" + os.path.join(folder, "part"), drive, "count"])
+                    "--callgrind-out-file=" + os.path.join(folder, "part"), drive, "count"],
+        env=COUNTED)
     counted = {}
     for name in os.listdir(folder):
         with open(os.path.join(folder, name)) as part:
