@@ -2,14 +2,17 @@
 SHELL := /bin/bash
 .SHELLFLAGS := -o pipefail -c
 SECONDS ?= 60
+RUNS ?= 100000
+SEED ?= 1
 
-.PHONY: help demo test example compare bench clean
+.PHONY: help demo test example compare fuzz bench clean
 
 help:
 	@echo "make demo     prove and build the trace program, and run it on the worked trace"
 	@echo "make test     prove every crate, try every wrong version, run every comparison"
 	@echo "make example  build the C library and run the drawing program over it"
 	@echo "make compare  compare random traces with the independent program for SECONDS=$(SECONDS)"
+	@echo "make fuzz     fuzz the C calls against the independent program, RUNS=$(RUNS) each from SEED=$(SEED)"
 	@echo "make bench    time the program and the C calls against plain C"
 	@echo "make clean    remove what was built"
 
@@ -30,6 +33,12 @@ compare:
 	@rt check trace | tail -n 1
 	@cd tests/compare && CARGO_TARGET_DIR=$(CURDIR)/target/tests cargo build --release --offline --quiet -j1
 	@cd tests && $(CURDIR)/target/tests/release/compare --program "./x86 $(CURDIR)/target/bin/trace" --seconds $(SECONDS)
+
+fuzz:
+	@rt staticlib pieces | tail -n 1
+	@cd tests/doors && CARGO_TARGET_DIR=$(CURDIR)/target/tests cargo build --release --offline --quiet -j1
+	@tests/build-door target/staticlib target/tests/door
+	@target/tests/release/doors --door "tests/x86 target/tests/door" --fuzz $(RUNS) --seed $(SEED)
 
 bench:
 	@rt check trace | tail -n 1

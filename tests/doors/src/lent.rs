@@ -33,7 +33,7 @@ fn difference(
 }
 
 /// Lends the trace and a room of the given length to both.
-fn lend(judge: &mut Judge, bytes: &[u8], length: usize) -> Result<(), String> {
+pub fn lend(judge: &mut Judge, bytes: &[u8], length: usize) -> Result<(), String> {
     let mut room = vec![0xee; length];
     let mut asked = head(0, 0, [0; 3]);
     put(&mut asked, bytes);

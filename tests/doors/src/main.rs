@@ -2,6 +2,7 @@
 
 mod call;
 mod door;
+mod fuzz;
 mod guarded;
 mod judge;
 mod lent;
@@ -17,8 +18,9 @@ use door::Door;
 use judge::Judge;
 use std::process::ExitCode;
 
-const USAGE: &str = "usage: doors --door COMMAND [--rounds R] [--seed K]
-  COMMAND is the program of tests/build-door, or words that run it, with lines or spaces between.";
+const USAGE: &str = "usage: doors --door COMMAND [--rounds R | --fuzz RUNS] [--seed K]
+  COMMAND is the program of tests/build-door, or words that run it, with lines or spaces between.
+  RUNS traces and RUNS tables are changed at random and tried, in place of the rounds.";
 
 /// A kind of tables or traces, by name, and how many times it is tried in one round.
 type Phase = (&'static str, usize, fn(&mut Random, &mut Judge) -> Result<(), String>);
@@ -35,20 +37,27 @@ const PHASES: &[Phase] = &[
     ("lent traces", 1, lent::traces),
 ];
 
+/// What is fuzzed, by name; gives how many were kept to be changed further.
+type Fuzzed = (&'static str, fn(&mut Random, &mut Judge, u64) -> Result<usize, String>);
+
+const FUZZED: &[Fuzzed] = &[("traces", fuzz::traces), ("tables", fuzz::tables)];
+
 struct Options {
     door: String,
     rounds: u64,
+    fuzz: u64,
     seed: u64,
 }
 
 /// The options of the command line, none if they are not right.
 fn options(mut words: impl Iterator<Item = String>) -> Option<Options> {
-    let mut options = Options { door: String::new(), rounds: 2, seed: 1 };
+    let mut options = Options { door: String::new(), rounds: 2, fuzz: 0, seed: 1 };
     while let Some(word) = words.next() {
         let value = words.next()?;
         match word.as_str() {
             "--door" => options.door = value,
             "--rounds" => options.rounds = value.parse().ok()?,
+            "--fuzz" => options.fuzz = value.parse().ok()?,
             "--seed" => options.seed = value.parse().ok()?,
             _ => return None,
         }
@@ -86,6 +95,22 @@ fn phases(options: &Options) -> Result<(usize, usize), String> {
     Ok((tables, calls))
 }
 
+/// Fuzzes traces and tables and prints their figures; how many tables and calls there were.
+fn fuzzed(options: &Options) -> Result<(usize, usize), String> {
+    let mut door = Door::open(&options.door)?;
+    let (mut tables, mut calls) = (0, 0);
+    for (name, fuzz) in FUZZED {
+        let mut judge = Judge::new(&mut door);
+        let kept = fuzz(&mut Random::new(options.seed), &mut judge, options.fuzz)
+            .and_then(|kept| judge.door.settle().map(|()| kept))
+            .map_err(|account| format!("fuzzed {name}, seed {}: {account}", options.seed))?;
+        println!("fuzzed {name:23} {judge}, {kept} kept");
+        (tables, calls) = (tables + judge.tables, calls + judge.calls);
+    }
+    door.close()?;
+    Ok((tables, calls))
+}
+
 fn main() -> ExitCode {
     let options = match options(std::env::args().skip(1)) {
         Some(options) => options,
@@ -94,7 +119,7 @@ fn main() -> ExitCode {
             return ExitCode::from(2);
         }
     };
-    match phases(&options) {
+    match if options.fuzz > 0 { fuzzed(&options) } else { phases(&options) } {
         Ok((tables, calls)) => {
             println!("no difference, {tables} tables and traces tried, {calls} calls compared");
             ExitCode::SUCCESS
