@@ -47,3 +47,6 @@ bench:
 
 clean:
 	rm -rf target
+
+.DEFAULT:
+	@echo "there is no command '$@'; make help lists them" >&2; exit 2
