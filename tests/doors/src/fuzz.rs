@@ -1,9 +1,10 @@
 //! Fuzzing: traces and tables are changed at random, and those that bring up something new are
 //! kept to be changed further. Each is tried by the door and by the independent program.
 
-use crate::judge::Judge;
+use crate::call::Call;
+use crate::judge::{Judge, YES};
 use crate::lent::lend;
-use crate::stores::{any_call, sound};
+use crate::stores::{any_call, define, sound};
 use compare::profiles::{trace, PROFILES};
 use compare::random::Random;
 use independent::tables::Tables;
@@ -15,6 +16,9 @@ const UNSOUND: u64 = 2;
 
 /// The longest trace that is kept.
 const LONGEST: usize = 2_048;
+
+/// The bytes of right lines, and one that ends lines elsewhere.
+const BYTES: &[u8] = b"0123456789 -\n\rnsfarbl";
 
 /// What is kept, and all that it has brought up.
 struct Kept<T> {
@@ -46,9 +50,9 @@ fn change(random: &mut Random, text: &mut Vec<u8>, other: &[u8]) {
     };
     match random.below(8) {
         0 if at < text.len() => text[at] = random.bits() as u8,
-        1 if at < text.len() => text[at] = random.pick(b"0123456789 -\nnsfarbl"),
+        1 if at < text.len() => text[at] = random.pick(BYTES),
         2 if at < text.len() => drop(text.remove(at)),
-        3 => text.insert(at, random.pick(b"0123456789 -\nnsfarbl")),
+        3 => text.insert(at, random.pick(BYTES)),
         4 => drop(text.drain(line(text, at))),
         5 => {
             let again = text[line(text, at)].to_vec();
@@ -104,12 +108,13 @@ pub fn traces(random: &mut Random, judge: &mut Judge, runs: u64) -> Result<usize
     Ok(kept.all.len())
 }
 
-/// Changes one entry of the store.
+/// Changes one entry of the store; after a link to a piece or a hold, leaders and counts may follow.
 fn spoil(random: &mut Random, tables: &mut Tables, n: usize) {
     let p = random.below(n);
     let q = random.pick(&[0, p as u16, n as u16 - 1, n as u16, 65_535]);
     let any = random.below(n) as u16;
-    match random.below(7) {
+    let kind = random.below(7);
+    match kind {
         0 => tables.states[p] = random.pick(&[0, 1, 2, 2, 3]),
         1 => tables.links[4 * p + random.below(4)] = q,
         2 => tables.links[4 * p + random.below(4)] = any,
@@ -117,6 +122,9 @@ fn spoil(random: &mut Random, tables: &mut Tables, n: usize) {
         4 => tables.holds[p] = random.pick(&[0, 1, 2, 999, 1_000, 1_001]),
         5 => tables.counts[p] = tables.counts[p].wrapping_add(1),
         _ => tables.counts[p] = tables.counts[p].wrapping_sub(1),
+    }
+    if (kind == 2 || kind == 4) && random.once_in(2) {
+        define(tables);
     }
 }
 
@@ -138,9 +146,12 @@ pub fn tables(random: &mut Random, judge: &mut Judge, runs: u64) -> Result<usize
         if random.once_in(2) {
             spoil(random, &mut tables, n);
         }
+        let call = any_call(random, n);
         judge.tables += 1;
-        let answer = judge.call(&mut tables, any_call(random, n))?;
-        if answer & 0xff != UNSOUND {
+        let answer = judge.call(&mut tables, call)?;
+        let flawed =
+            if matches!(call, Call::Check) { answer != YES } else { answer & 0xff == UNSOUND };
+        if !flawed {
             kept.keep(&tables, [brought_by(answer, &tables)].into_iter());
         }
     }
