@@ -13,9 +13,10 @@ TRACES = os.path.join(OUT, "traces")
 TESTS = os.path.join(ROOT, "target", "tests")
 NEED, GCC_FOR, X86 = (os.path.join(ROOT, "tests", name) for name in ("need", "gcc-for", "x86"))
 FLAGS = ["-std=c11", "-O3", "-Wall", "-Wextra"]
-# Where instructions are counted, the C library fills and copies without `rep`, which counts a byte as one.
-COUNTED = dict(os.environ, GLIBC_TUNABLES="glibc.cpu.x86_rep_stosb_threshold=0x40000000:"
-               "glibc.cpu.x86_rep_movsb_threshold=0x40000000")
+# The C library fills and copies without `rep`: where instructions are counted it counts a byte as one,
+# and an emulator runs it byte by byte.
+NO_REP = dict(os.environ, GLIBC_TUNABLES="glibc.cpu.x86_rep_stosb_threshold=0x40000000:"
+              "glibc.cpu.x86_rep_movsb_threshold=0x40000000")
 
 
 def say(what):
@@ -97,7 +98,8 @@ def processor_time(words, path):
     """Seconds of processor time that a command takes for a trace."""
     source, sink = os.open(path, os.O_RDONLY), os.open(os.devnull, os.O_WRONLY)
     actions = [(os.POSIX_SPAWN_DUP2, source, 0), (os.POSIX_SPAWN_DUP2, sink, 1)]
-    child = os.posix_spawn(words[0], words, os.environ, file_actions=actions)
+    child = os.posix_spawn(words[0], words, NO_REP if len(words) > 1 else os.environ,
+                           file_actions=actions)
     _, status, used = os.wait4(child, 0)
     os.close(source)
     os.close(sink)
@@ -139,7 +141,7 @@ def instructions(counting, program, path):
         words, sign = counting + ["--callgrind-out-file=/dev/null", program], "Collected :"
     with open(path, "rb") as source:
         done = subprocess.run(words, stdin=source, stdout=subprocess.DEVNULL,
-                              stderr=subprocess.PIPE, text=True, env=COUNTED)
+                              stderr=subprocess.PIPE, text=True, env=NO_REP)
     counted = [line for line in done.stderr.splitlines() if sign in line]
     return int(counted[0].split()[-1]) if counted else None
 
@@ -155,7 +157,8 @@ def passes(tally, path):
 def driven(drive, what, rounds):
     """Rows of the driver, in their order: shape, call, N, size, and the medians of several runs."""
     words = command(drive) + [what]
-    runs = [[line.split("\t") for line in run(words).stdout.splitlines()]
+    env = NO_REP if len(words) > 2 else os.environ
+    runs = [[line.split("\t") for line in run(words, env=env).stdout.splitlines()]
             for _ in range(rounds)]
     rows = []
     for same in zip(*runs):
@@ -174,7 +177,7 @@ def call_instructions(counting, drive):
 
 def marked(counting, drive):
     """The instructions between two marks each, less those between marks about nothing."""
-    done = run(counting + command(drive)[1:] + ["count"], env=COUNTED)
+    done = run(counting + command(drive)[1:] + ["count"], env=NO_REP)
     names = [tuple(line.split("/")) for line in done.stdout.splitlines()]
     marks = [int(line.split()[1]) for line in done.stderr.splitlines() if line.startswith("mark: ")]
     between = [end - begin for begin, end in zip(marks[::2], marks[1::2])]
@@ -189,7 +192,7 @@ def collected(counting, drive):
         os.remove(os.path.join(folder, name))
     run(counting + ["-q", "--collect-atstart=no",
                     "--callgrind-out-file=" + os.path.join(folder, "part"), drive, "count"],
-        env=COUNTED)
+        env=NO_REP)
     counted = {}
     for name in os.listdir(folder):
         with open(os.path.join(folder, name)) as part:

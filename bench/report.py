@@ -19,14 +19,18 @@ def figure(value, digits=1):
     return "-" if value is None else f"{value:,.{digits}f}"
 
 
+def judged(profile, emulated):
+    """The ratio that is held to the target: of times, or of instructions where an emulator ran."""
+    got, plain = profile["instructions" if emulated else "times"][:2]
+    return got / plain if got and plain else None
+
+
 def verdict(profile, emulated):
-    """Whether the target of 1.5 holds; there is none where freezes and bins make passes, and the
-    times of an emulator do not tell."""
+    """Whether the target of 1.5 holds; there is none where freezes and bins make passes."""
+    value = judged(profile, emulated)
     if profile["passes"] >= 0.1:
         return "none"
-    if emulated:
-        return "not judged"
-    return "met" if profile["times"][0] <= 1.5 * profile["times"][1] else "MISSED"
+    return "-" if value is None else "met" if value <= 1.5 else "MISSED"
 
 
 def trace_table(profiles, emulated):
@@ -48,12 +52,20 @@ def ordered(rows, column):
     return list(dict.fromkeys(row[column] for row in rows))
 
 
-def ratio_table(rows):
+def call_ratios(rows, counted, emulated):
+    """By shape and call the ratio that is held to the target, as judged."""
+    if not emulated:
+        return {(row[0], row[1]): row[5] / row[4] for row in rows}
+    return {key: counted[key + ("pieces",)] / counted[key + ("plain",)]
+            for key in ((row[0], row[1]) for row in rows) if key + ("plain",) in counted}
+
+
+def ratio_table(rows, ratios):
     """Ratios of the calls, a row each, by shape."""
     shapes = ordered(rows, 0)
-    by = {(row[0], row[1]): ratio(row[5], row[4]) for row in rows}
     return table(["Call"] + shapes,
-                 [[call] + [by[shape, call] for shape in shapes] for call in ordered(rows, 1)])
+                 [[call] + [f"{ratios[shape, call]:.2f}" if (shape, call) in ratios else "-"
+                            for shape in shapes] for call in ordered(rows, 1)])
 
 
 def call_table(rows, counted):
@@ -105,16 +117,16 @@ def bars(title, entries, top, most):
     return parts, high + 40
 
 
-def plot(profiles, rows, name):
+def plot(profiles, ratios, name, emulated):
     """Ratios as bars: each profile, and each call by its highest with a tick for every shape."""
-    lines = [(p["name"], p["times"][0] / p["times"][1], [p["times"][0] / p["times"][2]])
-             for p in profiles]
-    by_call = {call: sorted(row[5] / row[4] for row in rows if row[1] == call)
-               for call in ordered(rows, 1)}
-    calls = [(call, ratios[-1], ratios[:-1]) for call, ratios in by_call.items()]
+    lines = [(p["name"], judged(p, emulated) or 0, []) for p in profiles]
+    by_call = {}
+    for (_, call), value in ratios.items():
+        by_call.setdefault(call, []).append(value)
+    calls = [(call, max(values), sorted(values)[:-1]) for call, values in by_call.items()]
     most = min(4.0, max([2.0] + [entry[1] for entry in lines + calls]) * 1.05)
-    first, top = bars("Trace lines: the program's time to the C baseline's "
-                      "(tick: to C with in-links kept)", lines, 50, most)
+    what = "Instructions" if emulated else "Time"
+    first, top = bars("Trace lines: the program to the C baseline", lines, 50, most)
     second, top = bars("Public calls at N = 1,024: libpieces.a to C, the highest of the shapes "
                        "(ticks: the others)", calls, top + 10, most)
     width = LEFT + WIDTH + RIGHT
@@ -122,5 +134,5 @@ def plot(profiles, rows, name):
         f'<svg xmlns="http://www.w3.org/2000/svg" width="{width}" height="{top}"'
         f' viewBox="0 0 {width} {top}" font-family="sans-serif" font-size="11">',
         f'<rect width="{width}" height="{top}" fill="white"/>',
-        f'<text x="10" y="22" font-size="14">Time as a ratio to plain C, {escape(name)}; '
-        'below 1.0 is faster than C</text>', *first, *second, "</svg>", ""])
+        f'<text x="10" y="22" font-size="14">{what} as a ratio to plain C, {escape(name)}; '
+        'below 1.0 is less than C</text>', *first, *second, "</svg>", ""])
