@@ -31,7 +31,8 @@ use Rattle.tallies.specs.Stores.{exact-moves, good-of, wells-of, exact-of, matc
 use Rattle.falling.specs.Steps.{base, Known, Going}
 use Rattle.falling.specs.Fall.{Begin, OverBut, Falling, fall-start}
 use Rattle.falling.specs.Freed.{Freed}
-use Rattle.editing.specs.Verdicts.{accepts, Accepted, settled-did}
+use Rattle.laws.specs.Verdicts.{accepts}
+use Rattle.editing.specs.Verdicts.{Accepted, settled-did}
 use Rattle.editing.specs.Names.{bin-names, number-right, free-right, state-right, linked-refused}
 use Rattle.editing.specs.Started.{Tippings, Tumbled, started, started-settled}
 use Rattle.editing.specs.Linked.{linkedTo, isLinked-is}

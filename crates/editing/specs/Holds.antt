@@ -28,7 +28,8 @@ use Rattle.tallies.specs.Stores.{exact-moves, good-of, wells-of, exact-of, matc
 use Rattle.falling.specs.Steps.{base, Going}
 use Rattle.falling.specs.Fall.{Begin, OverBut, Falling, Tipping, Tipped}
 use Rattle.falling.specs.Freed.{Freed}
-use Rattle.editing.specs.Verdicts.{accepts, Accepted, settled-did}
+use Rattle.laws.specs.Verdicts.{accepts}
+use Rattle.editing.specs.Verdicts.{Accepted, settled-did}
 use Rattle.editing.specs.Started.{one-tipping, one-fallen, started, started-settled}
 use Rattle.editing.specs.Names.{acquire-names, release-names, number-right, free-right, state-right, limit-refused, held-refused}
 

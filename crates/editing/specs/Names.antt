@@ -15,7 +15,7 @@ use Rattle.rules.specs.declared.Command.the-variants.{Acquire, Release, Bin}
 use Rattle.rules.specs.declared.Answer.the-variants.{Refused}
 use Rattle.laws.specs.Words.{eqb-of, neqb-of}
 use Rattle.tallies.specs.Tally.{_!_}
-use Rattle.editing.specs.Verdicts.{by-number, by-free, by-state, by-limit, by-held, by-linked, did-refused}
+use Rattle.laws.specs.Verdicts.{by-number, by-free, by-state, by-limit, by-held, by-linked, did-refused}
 
 -- c names p, and is not for a piece whose state is k
 pub record Names (b : Base) (c : Command) (p k : ℕ) : Type 0 where

@@ -19,7 +19,7 @@ use Rattle.laws.specs.Words.{eqb-of, neqb-of}
 use Rattle.laws.specs.Commands.{Passes, not-or-left, not-or-right, not-not}
 use Rattle.tallies.specs.Tally.{_!_}
 use Rattle.falling.specs.Steps.{base}
-use Rattle.editing.specs.Verdicts.{by-number, by-free, by-state, did-refused}
+use Rattle.laws.specs.Verdicts.{by-number, by-free, by-state, did-refused}
 
 -- ---- the tests
 

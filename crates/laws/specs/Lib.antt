@@ -4,6 +4,8 @@ pub mod Reach
 pub mod Words
 pub mod Sound
 pub mod Settle
+pub mod Passes
+pub mod Edits
 pub mod Commands
 pub mod Verdicts
 pub mod Counts
