@@ -1,10 +1,11 @@
-// Leaves over the areas: filling, sizes, the lowest free number.
+// Leaves over the areas: filling, sizes, the lowest free number, one piece's links.
 ghost use mathlib.Core.Path.{_≡_};
 ghost use mathlib.Core.List.{_++_};
-ghost use Prim.Native.Nat.{ℕ, _≤_, _<_};
+ghost use Prim.Native.Nat.{ℕ, _+_, _*_, _≤_, _<_};
 ghost use lib.ListN.{length, getD, drop, replicate};
 ghost use Rattle.rules.specs.Calls.{storeOf, isSized};
 ghost use Rattle.areas.specs.Lowest.{NoneFree, LowestFree};
+ghost use Rattle.areas.specs.Four.{Four};
 use rules::Store;
 
 // Sets the first k entries to v.
@@ -91,4 +92,21 @@ pub fn lowest_free(n: usize, states: &[u8], from: usize) -> usize
         p += 1;
     }
     p
+}
+
+// The word of four empty links, and the lowest of those whose last three are empty.
+pub const FOUR_NONE: u64 = 18446744073709551615;
+
+pub const ONE_AT_MOST: u64 = 18446744073709486080;
+
+// The four links of a piece as one word, the first lowest.
+pub fn four(links: &[u16], p: usize) -> u64
+    requires { ⌜ 4 * p + 3 < length (now links) ⌝ }
+    ensures { λ r. ⌜ Four (now (links .entry)) p r ⌝ }
+{
+    let a = links[4 * p] as u64;
+    let b = links[4 * p + 1] as u64;
+    let c = links[4 * p + 2] as u64;
+    let d = links[4 * p + 3] as u64;
+    a + 65536 * b + 4294967296 * c + 281474976710656 * d
 }

@@ -21,8 +21,11 @@ use Rattle.tallies.specs.Exact.{Exact}
 use Rattle.sound.specs.Says.{Below}
 
 -- the leader of a frozen piece is that of the search, and any other piece has none
+abbrev pub Led : ℕ → ℕ → ℕ → Type 0
+Led state leader found = ((state ≡ 2) × (leader ≡ found)) ⊎ ((state ≡ 2 → ⊥) × (leader ≡ none))
+
 abbrev pub LeaderFound : ℕ → List ℕ → List ℕ → List ℕ → ℕ → Type 0
-LeaderFound n states leaders work p = ((states ! p ≡ 2) × (leaders ! p ≡ work ! (2 * n + p))) ⊎ ((states ! p ≡ 2 → ⊥) × (leaders ! p ≡ none))
+LeaderFound n states leaders work p = Led (states ! p) (leaders ! p) (work ! (2 * n + p))
 
 -- leaders: frozen: its group's leader; else none
 abbrev pub LeadersRight : Base → List ℕ → Type 0

@@ -1,4 +1,5 @@
 pub mod Says
+pub mod Faults
 pub mod Wells
 pub mod Leaders
 pub mod Counted

@@ -1,17 +1,19 @@
 -- A piece is well exactly if its holds and its four links are.
 use mathlib.Core.Path.{_≡_, subst}
+use mathlib.Core.Bool.{Bool}
 use mathlib.Core.Logic.{_⊎_, inl, inr, ⊎-elim}
 use mathlib.Core.List.{List}
 use Prim.Native.Nat.{ℕ, _+_, _*_, _≤_, _<_}
 use native.Mathlib.Omega.{arith}
-use lib.Dec.{eqb, leb}
+use lib.Dec.{leb}
 use Rattle.rules.specs.Limits.{mostHolds, none}
 use Rattle.rules.specs.Reach.{Link}
 use Rattle.rules.specs.Tables.{Base, state, linkAt, holdsOf}
 use Rattle.rules.specs.Words.{Frozen, Live, Well, wfree, wdraft, wfrozen}
 use Rattle.paths.specs.Ground.{_!_}
 use Rattle.paths.specs.Tools.{eq-or}
-use Rattle.sound.specs.Says.{Says, Below, says-eq, says-le}
+use Rattle.areas.specs.Four.{Four, fourNone, oneAtMost, places}
+use Rattle.sound.specs.Says.{Says, Below, says-le, says-same}
 
 abbrev pub baseOf : ℕ → List ℕ → List ℕ → List ℕ → Base
 baseOf n states links holds = record { n = n; states = states; links = links; holds = holds }
@@ -24,8 +26,15 @@ LinkWell n states s t = (t ≡ none) ⊎ ((t < n) × (((s ≡ 1) × ((states ! t
 abbrev pub HoldsWell : ℕ → ℕ → Type 0
 HoldsWell s h = ((s < 2) × (h ≡ 0)) ⊎ ((s ≡ 2) × (h ≤ mostHolds))
 
+abbrev pub Held : List ℕ → List ℕ → ℕ → Type 0
+Held states holds p = HoldsWell (states ! p) (holds ! p)
+
 abbrev pub LinksWell : ℕ → List ℕ → List ℕ → ℕ → ℕ → Type 0
 LinksWell n states links p k = Below (λ j. LinkWell n states (states ! p) (links ! (4 * p + j))) k
+
+-- the four links of p are well
+abbrev pub Linked : ℕ → List ℕ → List ℕ → ℕ → Type 0
+Linked n states links p = LinksWell n states links p 4
 
 -- ---- what each return of the tests says
 
@@ -34,27 +43,50 @@ module _ (n : ℕ) (states : List ℕ) (s t : ℕ) (some : t ≡ none → ⊥) w
   link-past h (inl e) = some e
   link-past h (inr w) = omega (arith, w .0)
 
-  pub link-other : (s ≡ 1 → ⊥) → (s ≡ 2 → ⊥) → LinkWell n states s t → ⊥
-  link-other d f (inl e) = some e
-  link-other d f (inr w) = ⊎-elim (λ x. d (x .0)) (λ x. f (x .0)) (w .1)
+  pub link-live : t < n → 0 < s → s ≤ 2 → states ! t ≤ 2 → Says (LinkWell n states s t) (leb s (states ! t))
+  link-live h l m u =
+      says-le s (states ! t)
+      (λ x. inr (h, ⊎-elim (λ e. inl (e, ⊎-elim inl (λ d. inr (omega (arith, d))) (eq-or (states ! t) 1))) (λ d. inr (omega (arith, d), omega (arith, d))) (eq-or s 1)))
+      (λ w.
+      ⊎-elim
+      (λ z. absurd (some z))
+      (λ x. ⊎-elim (λ y. ⊎-elim (λ z. omega (arith, y .0)) (λ z. omega (arith, y .0)) (y .1)) (λ y. omega (arith, y .0, y .1)) (x .1))
+      w)
 
-  pub link-frozen : t < n → s ≡ 2 → Says (LinkWell n states s t) (eqb (states ! t) 2)
-  link-frozen h e = says-eq (states ! t) 2 (λ x. inr (h, inr (e, x))) (λ w. ⊎-elim (λ z. absurd (some z)) (λ x. ⊎-elim (λ y. absurd (omega (arith, e, y .0))) (λ y. y .1) (x .1)) w)
+module _ (n : ℕ) (states links : List ℕ) (p w : ℕ) (f : Four links p w) where
+  pub links-empty : w ≡ fourNone → LinksWell n states links p 4
+  links-empty e j h = inl (f .empty e j h)
 
-  pub link-draft : t < n → s ≡ 1 → (states ! t ≡ 1 → ⊥) → Says (LinkWell n states s t) (eqb (states ! t) 2)
-  link-draft h e d =
-      says-eq (states ! t) 2 (λ x. inr (h, inl (e, inr x)))
-      (λ w. ⊎-elim (λ z. absurd (some z)) (λ x. ⊎-elim (λ y. ⊎-elim (λ u. absurd (d u)) (λ u. u) (y .1)) (λ y. y .1) (x .1)) w)
+  pub links-free : (w ≡ fourNone → ⊥) → states ! p ≡ 0 → LinksWell n states links p 4 → ⊥
+  links-free d e x =
+      f .named d (λ k h. ⊎-elim (λ z. z) (λ y. absurd (⊎-elim (λ z. omega (arith, z .0)) (λ z. omega (arith, z .0)) (y .1))) (x k h))
+
+  first : LinkWell n states (states ! p) (links ! (4 * p)) → LinkWell n states (states ! p) (links ! (4 * p + 0))
+  first x = let e : 4 * p ≡ 4 * p + 0 = omega arith in subst (λ (i : ℕ). LinkWell n states (states ! p) (links ! i)) e x
+
+  pub links-one : oneAtMost ≤ w → LinkWell n states (states ! p) (links ! (4 * p)) → LinksWell n states links p 4
+  links-one l x =
+      places (λ j. LinkWell n states (states ! p) (links ! (4 * p + j))) (first x) (inl (f .rest l 1 (omega arith) (omega arith))) (inl (f .rest l 2 (omega arith) (omega arith))) (inl (f .rest l 3 (omega arith) (omega arith)))
+
+  pub links-four : LinkWell n states (states ! p) (links ! (4 * p)) → LinkWell n states (states ! p) (links ! (4 * p + 1)) → LinkWell n states (states ! p) (links ! (4 * p + 2))
+      → LinkWell n states (states ! p) (links ! (4 * p + 3)) → LinksWell n states links p 4
+  links-four x y z u = places (λ j. LinkWell n states (states ! p) (links ! (4 * p + j))) (first x) y z u
+
+  pub not-first : (LinkWell n states (states ! p) (links ! (4 * p)) → ⊥) → LinksWell n states links p 4 → ⊥
+  not-first g x = let e : 4 * p + 0 ≡ 4 * p = omega arith in g (subst (λ (i : ℕ). LinkWell n states (states ! p) (links ! i)) e (x 0 (omega arith)))
 
 module _ (s h : ℕ) where
-  pub holds-frozen : s ≡ 2 → Says (HoldsWell s h) (leb h mostHolds)
-  holds-frozen e = says-le h mostHolds (λ l. inr (e, l)) (λ w. ⊎-elim (λ x. absurd (omega (arith, e, x .0))) (λ x. x .1) w)
+  pub holds-wrong : s ≡ 2 → mostHolds < h → HoldsWell s h → ⊥
+  holds-wrong e l w = ⊎-elim (λ x. omega (arith, x .0)) (λ x. omega (arith, x .1)) w
 
-  pub holds-wrong : 2 < s → HoldsWell s h → ⊥
-  holds-wrong l w = ⊎-elim (λ x. omega (arith, x .0)) (λ x. omega (arith, x .0)) w
+  pub state-wrong : 2 < s → HoldsWell s h → ⊥
+  state-wrong l w = ⊎-elim (λ x. omega (arith, x .0)) (λ x. omega (arith, x .0)) w
 
-  pub holds-other : s ≤ 2 → (s ≡ 2 → ⊥) → Says (HoldsWell s h) (eqb h 0)
-  holds-other l d = says-eq h 0 (λ e. inl (omega (arith, d), e)) (λ w. ⊎-elim (λ x. x .1) (λ x. absurd (d (x .0))) w)
+  pub holds-some : (s ≡ 2 → ⊥) → (h ≡ 0 → ⊥) → HoldsWell s h → ⊥
+  holds-some d f w = ⊎-elim (λ x. f (x .1)) (λ x. d (x .0)) w
+
+  pub state-most : HoldsWell s h → s ≤ 2
+  state-most w = ⊎-elim (λ x. omega (arith, x .0)) (λ x. omega (arith, x .0)) w
 
 -- ---- the words of 01
 
@@ -101,6 +133,10 @@ module _ (b : Base) where
   links-of p (wdraft w) k l =
       ⊎-elim (λ e. inl e) (λ v. inr (⊎-elim (λ d. (d .below, inl (w .is, inl (d .is)))) (λ f. (f .below, inl (w .is, inr (f .is)))) v)) (w .links k l)
   links-of p (wfrozen w) k l = ⊎-elim (λ e. inl e) (λ f. inr (f .below, inr (w .is, f .is))) (w .links k l)
+
+  -- where the holds are well, all is well exactly if the links are
+  pub well-linked : Below (Held (b .states) (b .holds)) (b .n) → {r : Bool} → Says (Below (Linked (b .n) (b .states) (b .links)) (b .n)) r → Says (Below (Well b) (b .n)) r
+  well-linked held = says-same (λ f p h. →well p (held p h) (f p h)) (λ f p h. links-of p (f p h))
 
   -- what a live piece names is live
   pub live-on : b .n ≤ 1024 → ((p : ℕ) → p < b .n → Well b p) → (r q : ℕ) → Live b r → Link (b .n) (linkAt b) r q → Live b q

@@ -8,14 +8,15 @@ ghost use Rattle.rules.specs.Words.{Well, Sound, Sized};
 ghost use Rattle.rules.specs.Calls.{storeOf, clear, Clear};
 ghost use Rattle.paths.specs.Ground.{_!_};
 ghost use Rattle.sound.specs.Says.{Says, Below};
-ghost use Rattle.sound.specs.Wells.{baseOf, LinkWell, LinksWell, HoldsWell};
-ghost use Rattle.sound.specs.Leaders.{LeaderFound, LeadersRight};
+ghost use Rattle.sound.specs.Faults.{Faults};
+ghost use Rattle.sound.specs.Wells.{baseOf, LinkWell, Linked, HoldsWell, Held};
+ghost use Rattle.sound.specs.Leaders.{Led, LeaderFound, LeadersRight};
 ghost use Rattle.sound.specs.Counted.{Counted, CountFound, CountsRight};
 use rules::Store;
 
-// Whether a piece of this state may name the target: none, from a draft a live piece, from a frozen piece a frozen one.
+// Whether a piece of this state, not free, may name the target: none, from a draft a live piece, from a frozen piece a frozen one.
 fn link_well(n: usize, states: &[u8], state: u8, target: u16) -> bool
-    requires { ⌜ length (now states) ≡ n ⌝ }
+    requires { ⌜ (length (now states) ≡ n) × Below (λ q. now states ! q ≤ 2) n × (0 < state) × (state ≤ 2) ⌝ }
     ensures { λ r. ⌜ Says (LinkWell n (now (states .entry)) state target) r ⌝ }
 {
     if target == Store::NONE {
@@ -25,56 +26,44 @@ fn link_well(n: usize, states: &[u8], state: u8, target: u16) -> bool
     if n <= t {
         return false;
     }
-    if state == 2 {
-        return states[t] == 2;
-    }
-    if state != 1 {
-        return false;
-    }
-    if states[t] == 1 {
-        return true;
-    }
-    states[t] == 2
+    state <= states[t]
 }
 
 // Whether the four links of a piece are well.
 fn links_well(n: usize, states: &[u8], links: &[u16], p: usize) -> bool
-    requires { ⌜ (n ≤ 1024) × (length (now states) ≡ n) × (length (now links) ≡ 4 * n) × (p < n) ⌝ }
-    ensures { λ r. ⌜ Says (LinksWell n (now (states .entry)) (now (links .entry)) p 4) r ⌝ }
+    requires { ⌜ (n ≤ 1024) × (length (now states) ≡ n) × (length (now links) ≡ 4 * n) × Below (λ q. now states ! q ≤ 2) n × (p < n) ⌝ }
+    ensures { λ r. ⌜ Says (Linked n (now (states .entry)) (now (links .entry)) p) r ⌝ }
 {
-    let mut k = 0;
-    while k < 4 {
-        if !link_well(n, states, states[p], links[4 * p + k]) {
-            return false;
-        }
-        k += 1;
+    let word = areas::four(links, p);
+    if word == areas::FOUR_NONE {
+        return true;
     }
-    true
-}
-
-// Whether the holds of a piece of this state are well: 0 unless frozen, and at most 1,000.
-fn holds_well(state: u8, holds: u16) -> bool
-    ensures { λ r. ⌜ Says (HoldsWell state holds) r ⌝ }
-{
-    if state == 2 {
-        return holds <= Store::HOLDS;
-    }
-    if 2 < state {
+    let state = states[p];
+    if state == 0 {
         return false;
     }
-    holds == 0
+    if !link_well(n, states, state, links[4 * p]) {
+        return false;
+    }
+    if areas::ONE_AT_MOST <= word {
+        return true;
+    }
+    if !link_well(n, states, state, links[4 * p + 1]) {
+        return false;
+    }
+    if !link_well(n, states, state, links[4 * p + 2]) {
+        return false;
+    }
+    link_well(n, states, state, links[4 * p + 3])
 }
 
-// Whether every piece is well: its state, its links and its holds.
-fn all_well(n: usize, states: &[u8], links: &[u16], holds: &[u16]) -> bool
-    requires { ⌜ (n ≤ 1024) × (length (now states) ≡ n) × (length (now links) ≡ 4 * n) × (length (now holds) ≡ n) ⌝ }
-    ensures { λ r. ⌜ Says (Below (Well (baseOf n (now (states .entry)) (now (links .entry)) (now (holds .entry)))) n) r ⌝ }
+// Whether the links of all pieces are well.
+fn all_linked(n: usize, states: &[u8], links: &[u16]) -> bool
+    requires { ⌜ (n ≤ 1024) × (length (now states) ≡ n) × (length (now links) ≡ 4 * n) × Below (λ q. now states ! q ≤ 2) n ⌝ }
+    ensures { λ r. ⌜ Says (Below (Linked n (now (states .entry)) (now (links .entry))) n) r ⌝ }
 {
     let mut p = 0;
     while p < n {
-        if !holds_well(states[p], holds[p]) {
-            return false;
-        }
         if !links_well(n, states, links, p) {
             return false;
         }
@@ -83,15 +72,64 @@ fn all_well(n: usize, states: &[u8], links: &[u16], holds: &[u16]) -> bool
     true
 }
 
-// Whether the leader of a piece is the one found: none unless frozen.
-fn leader_found(n: usize, states: &[u8], leaders: &[u16], work: &[u32], p: usize) -> bool
-    requires { ⌜ (n ≤ 1024) × (length (now states) ≡ n) × (length (now leaders) ≡ n) × (8 * n ≤ length (now work)) × (p < n) ⌝ }
-    ensures { λ r. ⌜ Says (LeaderFound n (now (states .entry)) (now (leaders .entry)) (now (work .entry)) p) r ⌝ }
+// 1 unless the holds of a piece of this state are well: 0 unless frozen, and at most 1,000.
+fn holds_fault(state: u8, holds: u16) -> u16
+    ensures { λ r. ⌜ Faults (HoldsWell state holds) 1 r ⌝ }
 {
-    if states[p] != 2 {
-        return leaders[p] == Store::NONE;
+    if state == 2 {
+        if holds <= Store::HOLDS {
+            return 0;
+        }
+        return 1;
     }
-    leaders[p] as u32 == work[2 * n + p]
+    if 2 < state {
+        return 1;
+    }
+    if holds == 0 {
+        return 0;
+    }
+    1
+}
+
+// Whether the states and the holds of all pieces are well.
+fn all_held(n: usize, states: &[u8], holds: &[u16]) -> bool
+    requires { ⌜ (n ≤ 1024) × (length (now states) ≡ n) × (length (now holds) ≡ n) ⌝ }
+    ensures { λ r. ⌜ Says (Below (Held (now (states .entry)) (now (holds .entry))) n) r ⌝ }
+{
+    let mut faults: u16 = 0;
+    let mut p = 0;
+    while p < n {
+        faults = faults + holds_fault(states[p], holds[p]);
+        p += 1;
+    }
+    faults == 0
+}
+
+// Whether every piece is well: its state, its links and its holds.
+fn all_well(n: usize, states: &[u8], links: &[u16], holds: &[u16]) -> bool
+    requires { ⌜ (n ≤ 1024) × (length (now states) ≡ n) × (length (now links) ≡ 4 * n) × (length (now holds) ≡ n) ⌝ }
+    ensures { λ r. ⌜ Says (Below (Well (baseOf n (now (states .entry)) (now (links .entry)) (now (holds .entry)))) n) r ⌝ }
+{
+    if !all_held(n, states, holds) {
+        return false;
+    }
+    all_linked(n, states, links)
+}
+
+// 1 unless the leader of a piece of this state is the one found: none unless frozen.
+fn leader_fault(state: u8, leader: u16, found: u32) -> u32
+    ensures { λ r. ⌜ Faults (Led state leader found) 1 r ⌝ }
+{
+    if state == 2 {
+        if leader as u32 == found {
+            return 0;
+        }
+        return 1;
+    }
+    if leader == Store::NONE {
+        return 0;
+    }
+    1
 }
 
 // Whether all leaders are those found.
@@ -99,29 +137,36 @@ fn leaders_found(n: usize, states: &[u8], leaders: &[u16], work: &[u32]) -> bool
     requires { ⌜ (n ≤ 1024) × (length (now states) ≡ n) × (length (now leaders) ≡ n) × (8 * n ≤ length (now work)) ⌝ }
     ensures { λ r. ⌜ Says (Below (LeaderFound n (now (states .entry)) (now (leaders .entry)) (now (work .entry))) n) r ⌝ }
 {
+    let mut faults: u32 = 0;
     let mut p = 0;
     while p < n {
-        if !leader_found(n, states, leaders, work, p) {
-            return false;
-        }
+        faults = faults + leader_fault(states[p], leaders[p], work[2 * n + p]);
         p += 1;
     }
-    true
+    faults == 0
 }
 
-// Whether the count of a piece is the one counted, and not 0 at a leader.
-fn count_found(n: usize, leaders: &[u16], counts: &[u32], work: &[u32], p: usize) -> bool
-    requires { ⌜ (n ≤ 1024) × (length (now leaders) ≡ n) × (length (now counts) ≡ n) × (8 * n ≤ length (now work)) × (p < n) ⌝ }
-    ensures { λ r. ⌜ Says (CountFound n (now (leaders .entry)) (now (counts .entry)) (now (work .entry)) p) r ⌝ }
+// 1 unless the count is the one counted.
+fn count_fault(count: u32, counted: u32) -> u32
+    ensures { λ r. ⌜ Faults (count ≡ counted) 1 r ⌝ }
 {
-    if counts[p] != work[6 * n + p] {
-        return false;
+    if count == counted {
+        return 0;
     }
-    let leader = leaders[p] as usize;
-    if leader != p {
-        return true;
+    1
+}
+
+// 1 if the piece leads a group of count 0.
+fn idle_fault(leader: u16, p: u16, count: u32) -> u32
+    ensures { λ r. ⌜ Faults (leader ≡ p → 0 < count) 1 r ⌝ }
+{
+    if count == 0 {
+        if leader == p {
+            return 1;
+        }
+        return 0;
     }
-    0 < counts[p]
+    0
 }
 
 // Whether all counts are those counted, and no group has count 0.
@@ -129,14 +174,16 @@ fn counts_found(n: usize, leaders: &[u16], counts: &[u32], work: &[u32]) -> bool
     requires { ⌜ (n ≤ 1024) × (length (now leaders) ≡ n) × (length (now counts) ≡ n) × (8 * n ≤ length (now work)) ⌝ }
     ensures { λ r. ⌜ Says (Below (CountFound n (now (leaders .entry)) (now (counts .entry)) (now (work .entry))) n) r ⌝ }
 {
+    let mut faults: u32 = 0;
     let mut p = 0;
     while p < n {
-        if !count_found(n, leaders, counts, work, p) {
-            return false;
-        }
+        let count = counts[p];
+        faults = faults
+            + count_fault(count, work[6 * n + p])
+            + idle_fault(leaders[p], p as u16, count);
         p += 1;
     }
-    true
+    faults == 0
 }
 
 // Counts all labels, into the seventh region.

@@ -1,172 +1,140 @@
--- `counts::add_links` meets its contract. The loop's invariant: each count has one more for each place passed that names its label from outside. Assumes nothing.
+-- `counts::add_links` meets its contract: the word tells which places are empty, and the others are counted. Assumes nothing.
+use Prim.Native.Nat.{_+_, _*_}
 use native.Mathlib.Omega.{arith}
-use Prim.Native.Nat.{ℕ, _≤_, _*_, _/_, _+_, _-_}
-use mathlib.Core.Path.{refl, sym, subst}
-use mathlib.Core.List.{List}
-use mathlib.Core.Logic.{⊎-elim}
 use Rattle.tallies.specs.Tally.{_!_}
-use Rattle.tallies.specs.Adding.{LinksAdded, links-none, links-hit, links-fit, skip-past, skip-none, skip-same}
+use Rattle.tallies.specs.Moves.{cross-most}
+use Rattle.counts.specs.Added.{four-none, four-one, four-all, still, owner}
+use borrow.Author.Needs.{needs}
 use Rattle.counts.proofs.add_links.Statement.{statement}
 use Rattle.counts.proofs.add_links.Tie as tie
+use Rattle.areas.proofs.four.Reads as four-reads
+use Rattle.counts.proofs.add_link.Reads as add-link-reads
 
-abbrev Inv-loop : tie.InvT-loop
-Inv-loop n links leaders counts₀ i₀ counts i = (i ≤ 4 * n) × LinksAdded n links leaders counts₀ i counts
+four-requires : tie.Need-four-requires
+four-requires c κs = search needs
 
-abbrev μ-loop : tie.MeasureT-loop
-μ-loop n links leaders counts₀ i₀ counts i = 4 * n - i
+returns : tie.Need-returns
+returns c = four-none (c .before .before .before .before .before .args .n) (c .before .before .before .before .before .args .links .now) (c .before .before .before .before .before .args .leaders .now) (c .before .before .before .before .before .pre .0 .leaders-n) (c .before .before .before .before .before .pre .0 .small) (c .before .before .before .before .before .args .q) (c .before .four .result) (c .before .four .ensures) (c .if1 .taken) (c .before .before .before .before .before .args .counts .now)
 
-loop-holds : tie.Need-loop-holds Inv-loop μ-loop
-loop-holds c = (omega arith, links-none (c .args .n) (c .args .links .now) (c .args .leaders .now) (c .args .counts .now) (c .pre .0))
+mul-own : tie.Need-mul-own
+mul-own c = search needs
 
-mul-loop : tie.Need-mul-loop Inv-loop μ-loop
-mul-loop c = omega (arith, c .before .pre .0, c .before .pre .1, c .loop .inv .1 .size)
+shared-slice-read-own : tie.Need-shared-slice-read-own
+shared-slice-read-own c = search needs
 
-mul-t : tie.Need-mul-t Inv-loop μ-loop
-mul-t c = omega (arith, c .before .before .pre .0, c .before .before .pre .1, c .before .loop .inv .1 .size)
+cast-own : tie.Need-cast-own
+cast-own c = omega (arith, c .shared-slice-known3 .given (c .before .before .before .before .before .before .args .q))
 
-shared-slice-read-t : tie.Need-shared-slice-read-t Inv-loop μ-loop
-shared-slice-read-t c =
-    let given = c .before .before .before .pre in
-    omega (arith, given .0, given .1, c .before .before .loop .inv .1 .size)
+mul-add-link : tie.Need-mul-add-link
+mul-add-link c = search needs
 
-cast-t : tie.Need-cast-t Inv-loop μ-loop
-cast-t c = omega (arith, c .shared-slice-known .given (c .before .before .loop .i))
+mul-add-link-2 : tie.Need-mul-add-link-2
+mul-add-link-2 c = search needs
 
-mul-l : tie.Need-mul-l Inv-loop μ-loop
-mul-l c =
-    let given = c .before .before .before .before .pre in
-    let loop = c .before .before .before .loop in
-    omega (arith, given .0, given .1, loop .inv .1 .size)
+shared-slice-read-add-link : tie.Need-shared-slice-read-add-link
+shared-slice-read-add-link c = search needs
 
-shared-slice-read-l : tie.Need-shared-slice-read-l Inv-loop μ-loop
-shared-slice-read-l c =
-    let given = c .before .before .before .before .before .pre in
-    let loop = c .before .before .before .before .loop in
-    omega (arith, given .0, given .1, loop .inv .1 .size)
+add-link-requires : tie.Need-add-link-requires
+add-link-requires c κs = (c .before .before .before .before .before .before .before .before .pre .0, λ l h. omega (arith, c .before .before .before .before .before .before .before .before .pre .2 l h))
 
-cast-l : tie.Need-cast-l Inv-loop μ-loop
-cast-l c =
-    let a = c .before .before .before .before .before .args in
-    let loop = c .before .before .before .before .loop in
-    omega (arith, c .shared-slice-known2 .given (a .links .now ! loop .i))
+same-length : tie.Need-same-length
+same-length c = search needs
 
-mul-o : tie.Need-mul-o Inv-loop μ-loop
-mul-o c =
-    let given = c .before .before .before .before .before .before .pre in
-    let loop = c .before .before .before .before .before .loop in
-    omega (arith, given .0, given .1, loop .inv .1 .size)
+returns-2 : tie.Need-returns-2
+returns-2 c = four-one (c .before .before .before .before .before .before .before .before .before .before .before .before .args .n) (c .before .before .before .before .before .before .before .before .before .before .before .before .args .links .now) (c .before .before .before .before .before .before .before .before .before .before .before .before .args .leaders .now) (c .before .before .before .before .before .before .before .before .before .before .before .before .pre .0 .leaders-n) (c .before .before .before .before .before .before .before .before .before .before .before .before .pre .0 .small) (c .before .before .before .before .before .before .before .before .before .before .before .before .args .q) (c .before .before .before .before .before .before .before .before .four .result) (c .before .before .before .before .before .before .before .before .four .ensures) (c .if2 .taken) (c .before .before .before .before .before .before .before .before .before .before .before .before .args .counts .now) (c .before .before .before .add-link .last .1 .1 .0) (c .before .before .before .add-link .ensures (4 * c .before .before .before .before .before .before .before .before .before .before .before .before .args .q) (owner (c .before .before .before .before .before .before .before .before .before .before .before .before .args .n) (c .before .before .before .before .before .before .before .before .before .before .before .before .args .leaders .now) (c .before .before .before .before .before .before .before .before .before .before .before .before .args .q) (4 * c .before .before .before .before .before .before .before .before .before .before .before .before .args .q) (c .before .before .before .before .before .before .before .before .before .before .before .before .pre .0 .leaders-n) (c .before .before .before .before .before .before .before .before .before .before .before .before .pre .3) (omega arith) (omega arith)))
 
-shared-slice-read-o : tie.Need-shared-slice-read-o Inv-loop μ-loop
-shared-slice-read-o c =
-    let given = c .before .before .before .before .before .before .before .pre in
-    let loop = c .before .before .before .before .before .before .loop in
-    omega (arith, given .0, given .1, loop .inv .1 .size)
+mul-add-link-3 : tie.Need-mul-add-link-3
+mul-add-link-3 c = search needs
 
-cast-o : tie.Need-cast-o Inv-loop μ-loop
-cast-o c = omega (arith, c .shared-slice-known3 .given (c .before .before .before .before .before .before .loop .i / 4))
+add-add-link : tie.Need-add-add-link
+add-add-link c = search needs
 
-mul-counts : tie.Need-mul-counts Inv-loop μ-loop
-mul-counts c =
-    let given = c .before .before .before .before .before .before .before .before .pre in
-    let loop = c .before .before .before .before .before .before .before .loop in
-    omega (arith, given .0, given .1, loop .inv .1 .size)
+mul-add-link-4 : tie.Need-mul-add-link-4
+mul-add-link-4 c = search needs
 
-slice-read-counts : tie.Need-slice-read-counts Inv-loop μ-loop
-slice-read-counts c =
-    let given = c .before .before .before .before .before .before .before .before .before .pre in
-    let loop = c .before .before .before .before .before .before .before .before .loop in
-    omega (arith, given .0, given .1, loop .inv .1 .size)
+shared-slice-read-add-link-2 : tie.Need-shared-slice-read-add-link-2
+shared-slice-read-add-link-2 c = search needs
 
-add-counts : tie.Need-add-counts Inv-loop μ-loop
-add-counts c =
-    let a = c .before .before .before .before .before .before .before .before .before .args in
-    let loop = c .before .before .before .before .before .before .before .before .loop in
-    let given = c .before .before .before .before .before .before .before .before .before .pre in
-    let test = c .before .before .before .before .before .before .before .loop-test in
-    let if2 = c .before .before .before .if2 in
-    omega (
-      arith,
-      links-fit (a .n) (a .links .now) (a .leaders .now) (a .counts .now) (given .0) (loop .i) (loop .counts) (loop .inv .1)
-          (test .taken) (a .leaders .now ! (a .links .now ! loop .i)) (if2 .taken) (given .2 (a .leaders .now ! (a .links .now ! loop .i)) (if2 .taken)),
-    )
+add-link-requires-2 : tie.Need-add-link-requires-2
+add-link-requires-2 c κs =
+    let z = c .before .before .before .before .before .before .before .before .before .before .before .before .before .before .pre .0 in
+    let a = c .before .before .before .before .before .add-link .ensures (4 * c .before .before .before .before .before .before .before .before .before .before .before .before .before .before .args .q) (owner (c .before .before .before .before .before .before .before .before .before .before .before .before .before .before .args .n) (c .before .before .before .before .before .before .before .before .before .before .before .before .before .before .args .leaders .now) (c .before .before .before .before .before .before .before .before .before .before .before .before .before .before .args .q) (4 * c .before .before .before .before .before .before .before .before .before .before .before .before .before .before .args .q) (c .before .before .before .before .before .before .before .before .before .before .before .before .before .before .pre .0 .leaders-n) (c .before .before .before .before .before .before .before .before .before .before .before .before .before .before .pre .3) (omega arith) (omega arith)) in
+    (still z a, λ l h. omega (arith, c .before .before .before .before .before .before .before .before .before .before .before .before .before .before .pre .2 l h, a .sums l h, cross-most (c .before .before .before .before .before .before .before .before .before .before .before .before .before .before .args .leaders .now) l (4 * c .before .before .before .before .before .before .before .before .before .before .before .before .before .before .args .q) (c .before .before .before .before .before .before .before .before .before .before .before .before .before .before .args .links .now ! (4 * c .before .before .before .before .before .before .before .before .before .before .before .before .before .before .args .q))))
 
-mul-counts-2 : tie.Need-mul-counts-2 Inv-loop μ-loop
-mul-counts-2 c =
-    let given = c .before .before .before .before .before .before .before .before .before .pre in
-    let loop = c .before .before .before .before .before .before .before .before .loop in
-    omega (arith, given .0, given .1, loop .inv .1 .size)
+mul-add-link-5 : tie.Need-mul-add-link-5
+mul-add-link-5 c = search needs
 
-slice-write-counts : tie.Need-slice-write-counts Inv-loop μ-loop
-slice-write-counts c =
-    let given = c .before .before .before .before .before .before .before .before .before .pre in
-    let loop = c .before .before .before .before .before .before .before .before .loop in
-    omega (arith, given .0, given .1, loop .inv .1 .size)
+add-add-link-2 : tie.Need-add-add-link-2
+add-add-link-2 c = search needs
 
-add-i : tie.Need-add-i Inv-loop μ-loop
-add-i c =
-    let given = c .before .before .before .before .pre in
-    let loop = c .before .before .before .loop in
-    omega (arith, given .0, given .1, loop .inv .1 .size)
+mul-add-link-6 : tie.Need-mul-add-link-6
+mul-add-link-6 c = search needs
 
-loop-less : tie.Need-loop-less Inv-loop μ-loop
-loop-less c =
-    let given = c .before .before .before .before .pre in
-    let loop = c .before .before .before .loop in
-    omega (arith, given .0, given .1, loop .inv .1 .size)
+shared-slice-read-add-link-3 : tie.Need-shared-slice-read-add-link-3
+shared-slice-read-add-link-3 c = search needs
 
-loop-again : tie.Need-loop-again Inv-loop μ-loop
-loop-again c =
-    let a = c .before .before .before .before .args in
-    let loop = c .before .before .before .loop in
-    let given = c .before .before .before .before .pre in
-    let test = c .before .before .loop-test in (
-      omega arith,
-      ⊎-elim (λ w. subst (λ (m : List ℕ). LinksAdded (a .n) (a .links .now) (a .leaders .now) (a .counts .now) (loop .i + 1) m)
-          (sym (w .6)) (links-hit (a .n) (a .links .now) (a .leaders .now) (a .counts .now) (given .0) (loop .i) (loop .counts) (loop .inv .1)
-          (test .taken) (a .leaders .now ! (a .links .now ! loop .i)) (w .0 .taken) refl (w .2 .taken) (w .4 .taken)))
-          (⊎-elim (λ w. subst (λ (m : List ℕ). LinksAdded (a .n) (a .links .now) (a .leaders .now) (a .counts .now) (loop .i + 1) m) (sym (w .5))
-          (skip-same (a .n) (a .links .now) (a .leaders .now) (a .counts .now) (given .0) (loop .i) (loop .counts) (loop .inv .1) (test .taken)
-          (w .0 .taken) (w .4 .left))) (⊎-elim (λ w. subst
-          (λ (m : List ℕ). LinksAdded (a .n) (a .links .now) (a .leaders .now) (a .counts .now) (loop .i + 1) m) (sym (w .3))
-          (skip-none (a .n) (a .links .now) (a .leaders .now) (a .counts .now) (given .0) (loop .i) (loop .counts) (loop .inv .1) (test .taken)
-          (w .0 .taken) (w .2 .left))) (λ w. subst (λ (m : List ℕ). LinksAdded (a .n) (a .links .now) (a .leaders .now) (a .counts .now) (loop .i + 1) m)
-          (sym (w .1)) (skip-past (a .n) (a .links .now) (a .leaders .now) (a .counts .now) (given .0) (loop .i) (loop .counts) (loop .inv .1)
-          (test .taken) (w .0 .left))))) (c .if1 .came),
-    )
+add-link-requires-3 : tie.Need-add-link-requires-3
+add-link-requires-3 c κs =
+    let z = c .before .before .before .before .before .before .before .before .before .before .before .before .before .before .before .before .before .before .before .pre .0 in
+    let a = c .before .before .before .before .before .before .before .before .before .before .add-link .ensures (4 * c .before .before .before .before .before .before .before .before .before .before .before .before .before .before .before .before .before .before .before .args .q) (owner (c .before .before .before .before .before .before .before .before .before .before .before .before .before .before .before .before .before .before .before .args .n) (c .before .before .before .before .before .before .before .before .before .before .before .before .before .before .before .before .before .before .before .args .leaders .now) (c .before .before .before .before .before .before .before .before .before .before .before .before .before .before .before .before .before .before .before .args .q) (4 * c .before .before .before .before .before .before .before .before .before .before .before .before .before .before .before .before .before .before .before .args .q) (c .before .before .before .before .before .before .before .before .before .before .before .before .before .before .before .before .before .before .before .pre .0 .leaders-n) (c .before .before .before .before .before .before .before .before .before .before .before .before .before .before .before .before .before .before .before .pre .3) (omega arith) (omega arith)) in
+    let b = c .before .before .before .before .add-link2 .ensures (4 * c .before .before .before .before .before .before .before .before .before .before .before .before .before .before .before .before .before .before .before .args .q + 1) (owner (c .before .before .before .before .before .before .before .before .before .before .before .before .before .before .before .before .before .before .before .args .n) (c .before .before .before .before .before .before .before .before .before .before .before .before .before .before .before .before .before .before .before .args .leaders .now) (c .before .before .before .before .before .before .before .before .before .before .before .before .before .before .before .before .before .before .before .args .q) (4 * c .before .before .before .before .before .before .before .before .before .before .before .before .before .before .before .before .before .before .before .args .q + 1) (c .before .before .before .before .before .before .before .before .before .before .before .before .before .before .before .before .before .before .before .pre .0 .leaders-n) (c .before .before .before .before .before .before .before .before .before .before .before .before .before .before .before .before .before .before .before .pre .3) (omega arith) (omega arith)) in
+    (still (still z a) b, λ l h. omega (arith, c .before .before .before .before .before .before .before .before .before .before .before .before .before .before .before .before .before .before .before .pre .2 l h, a .sums l h, cross-most (c .before .before .before .before .before .before .before .before .before .before .before .before .before .before .before .before .before .before .before .args .leaders .now) l (4 * c .before .before .before .before .before .before .before .before .before .before .before .before .before .before .before .before .before .before .before .args .q) (c .before .before .before .before .before .before .before .before .before .before .before .before .before .before .before .before .before .before .before .args .links .now ! (4 * c .before .before .before .before .before .before .before .before .before .before .before .before .before .before .before .before .before .before .before .args .q)), b .sums l h, cross-most (c .before .before .before .before .before .before .before .before .before .before .before .before .before .before .before .before .before .before .before .args .leaders .now) l (4 * c .before .before .before .before .before .before .before .before .before .before .before .before .before .before .before .before .before .before .before .args .q + 1) (c .before .before .before .before .before .before .before .before .before .before .before .before .before .before .before .before .before .before .before .args .links .now ! (4 * c .before .before .before .before .before .before .before .before .before .before .before .before .before .before .before .before .before .before .before .args .q + 1))))
 
-same-length : tie.Need-same-length Inv-loop μ-loop
-same-length c = c .before .loop .inv .1 .size
+mul-add-link-7 : tie.Need-mul-add-link-7
+mul-add-link-7 c = search needs
 
-returns : tie.Need-returns Inv-loop μ-loop
-returns c =
-    let a = c .before .before .args in
-    let loop = c .before .loop in
-    subst (λ (m : ℕ). LinksAdded (a .n) (a .links .now) (a .leaders .now) (a .counts .now) m (loop .counts)) (omega arith) (loop .inv .1)
+add-add-link-3 : tie.Need-add-add-link-3
+add-add-link-3 c = search needs
+
+mul-add-link-8 : tie.Need-mul-add-link-8
+mul-add-link-8 c = search needs
+
+shared-slice-read-add-link-4 : tie.Need-shared-slice-read-add-link-4
+shared-slice-read-add-link-4 c = search needs
+
+add-link-requires-4 : tie.Need-add-link-requires-4
+add-link-requires-4 c κs =
+    let z = c .before .before .before .before .before .before .before .before .before .before .before .before .before .before .before .before .before .before .before .before .before .before .before .before .pre .0 in
+    let a = c .before .before .before .before .before .before .before .before .before .before .before .before .before .before .before .add-link .ensures (4 * c .before .before .before .before .before .before .before .before .before .before .before .before .before .before .before .before .before .before .before .before .before .before .before .before .args .q) (owner (c .before .before .before .before .before .before .before .before .before .before .before .before .before .before .before .before .before .before .before .before .before .before .before .before .args .n) (c .before .before .before .before .before .before .before .before .before .before .before .before .before .before .before .before .before .before .before .before .before .before .before .before .args .leaders .now) (c .before .before .before .before .before .before .before .before .before .before .before .before .before .before .before .before .before .before .before .before .before .before .before .before .args .q) (4 * c .before .before .before .before .before .before .before .before .before .before .before .before .before .before .before .before .before .before .before .before .before .before .before .before .args .q) (c .before .before .before .before .before .before .before .before .before .before .before .before .before .before .before .before .before .before .before .before .before .before .before .before .pre .0 .leaders-n) (c .before .before .before .before .before .before .before .before .before .before .before .before .before .before .before .before .before .before .before .before .before .before .before .before .pre .3) (omega arith) (omega arith)) in
+    let b = c .before .before .before .before .before .before .before .before .before .add-link2 .ensures (4 * c .before .before .before .before .before .before .before .before .before .before .before .before .before .before .before .before .before .before .before .before .before .before .before .before .args .q + 1) (owner (c .before .before .before .before .before .before .before .before .before .before .before .before .before .before .before .before .before .before .before .before .before .before .before .before .args .n) (c .before .before .before .before .before .before .before .before .before .before .before .before .before .before .before .before .before .before .before .before .before .before .before .before .args .leaders .now) (c .before .before .before .before .before .before .before .before .before .before .before .before .before .before .before .before .before .before .before .before .before .before .before .before .args .q) (4 * c .before .before .before .before .before .before .before .before .before .before .before .before .before .before .before .before .before .before .before .before .before .before .before .before .args .q + 1) (c .before .before .before .before .before .before .before .before .before .before .before .before .before .before .before .before .before .before .before .before .before .before .before .before .pre .0 .leaders-n) (c .before .before .before .before .before .before .before .before .before .before .before .before .before .before .before .before .before .before .before .before .before .before .before .before .pre .3) (omega arith) (omega arith)) in
+    let d = c .before .before .before .before .add-link3 .ensures (4 * c .before .before .before .before .before .before .before .before .before .before .before .before .before .before .before .before .before .before .before .before .before .before .before .before .args .q + 2) (owner (c .before .before .before .before .before .before .before .before .before .before .before .before .before .before .before .before .before .before .before .before .before .before .before .before .args .n) (c .before .before .before .before .before .before .before .before .before .before .before .before .before .before .before .before .before .before .before .before .before .before .before .before .args .leaders .now) (c .before .before .before .before .before .before .before .before .before .before .before .before .before .before .before .before .before .before .before .before .before .before .before .before .args .q) (4 * c .before .before .before .before .before .before .before .before .before .before .before .before .before .before .before .before .before .before .before .before .before .before .before .before .args .q + 2) (c .before .before .before .before .before .before .before .before .before .before .before .before .before .before .before .before .before .before .before .before .before .before .before .before .pre .0 .leaders-n) (c .before .before .before .before .before .before .before .before .before .before .before .before .before .before .before .before .before .before .before .before .before .before .before .before .pre .3) (omega arith) (omega arith)) in
+    (still (still (still z a) b) d, λ l h. omega (arith, c .before .before .before .before .before .before .before .before .before .before .before .before .before .before .before .before .before .before .before .before .before .before .before .before .pre .2 l h, a .sums l h, cross-most (c .before .before .before .before .before .before .before .before .before .before .before .before .before .before .before .before .before .before .before .before .before .before .before .before .args .leaders .now) l (4 * c .before .before .before .before .before .before .before .before .before .before .before .before .before .before .before .before .before .before .before .before .before .before .before .before .args .q) (c .before .before .before .before .before .before .before .before .before .before .before .before .before .before .before .before .before .before .before .before .before .before .before .before .args .links .now ! (4 * c .before .before .before .before .before .before .before .before .before .before .before .before .before .before .before .before .before .before .before .before .before .before .before .before .args .q)), b .sums l h, cross-most (c .before .before .before .before .before .before .before .before .before .before .before .before .before .before .before .before .before .before .before .before .before .before .before .before .args .leaders .now) l (4 * c .before .before .before .before .before .before .before .before .before .before .before .before .before .before .before .before .before .before .before .before .before .before .before .before .args .q + 1) (c .before .before .before .before .before .before .before .before .before .before .before .before .before .before .before .before .before .before .before .before .before .before .before .before .args .links .now ! (4 * c .before .before .before .before .before .before .before .before .before .before .before .before .before .before .before .before .before .before .before .before .before .before .before .before .args .q + 1)), d .sums l h, cross-most (c .before .before .before .before .before .before .before .before .before .before .before .before .before .before .before .before .before .before .before .before .before .before .before .before .args .leaders .now) l (4 * c .before .before .before .before .before .before .before .before .before .before .before .before .before .before .before .before .before .before .before .before .before .before .before .before .args .q + 2) (c .before .before .before .before .before .before .before .before .before .before .before .before .before .before .before .before .before .before .before .before .before .before .before .before .args .links .now ! (4 * c .before .before .before .before .before .before .before .before .before .before .before .before .before .before .before .before .before .before .before .before .before .before .before .before .args .q + 2))))
+
+same-length-2 : tie.Need-same-length-2
+same-length-2 c = search needs
+
+returns-3 : tie.Need-returns-3
+returns-3 c = four-all (c .before .before .before .before .before .before .before .before .before .before .before .before .before .before .before .before .before .before .before .before .before .before .before .before .before .before .before .args .n) (c .before .before .before .before .before .before .before .before .before .before .before .before .before .before .before .before .before .before .before .before .before .before .before .before .before .before .before .args .links .now) (c .before .before .before .before .before .before .before .before .before .before .before .before .before .before .before .before .before .before .before .before .before .before .before .before .before .before .before .args .leaders .now) (c .before .before .before .before .before .before .before .before .before .before .before .before .before .before .before .before .before .before .before .before .before .before .before .before .before .before .before .pre .0 .leaders-n) (c .before .before .before .before .before .before .before .before .before .before .before .before .before .before .before .before .before .before .before .before .before .before .before .before .before .before .before .pre .0 .small) (c .before .before .before .before .before .before .before .before .before .before .before .before .before .before .before .before .before .before .before .before .before .before .before .before .before .before .before .args .q) (c .before .before .before .before .before .before .before .before .before .before .before .before .before .before .before .before .before .before .before .before .before .before .before .before .before .before .before .args .counts .now) (c .before .before .before .before .before .before .before .before .before .before .before .before .before .before .before .before .before .before .add-link .last .1 .1 .0) (c .before .before .before .before .before .before .before .before .before .before .before .before .add-link2 .last .1 .1 .0) (c .before .before .before .before .before .before .before .add-link3 .last .1 .1 .0) (c .before .before .add-link4 .last .1 .1 .0) (c .before .before .before .before .before .before .before .before .before .before .before .before .before .before .before .before .before .before .add-link .ensures (4 * c .before .before .before .before .before .before .before .before .before .before .before .before .before .before .before .before .before .before .before .before .before .before .before .before .before .before .before .args .q) (owner (c .before .before .before .before .before .before .before .before .before .before .before .before .before .before .before .before .before .before .before .before .before .before .before .before .before .before .before .args .n) (c .before .before .before .before .before .before .before .before .before .before .before .before .before .before .before .before .before .before .before .before .before .before .before .before .before .before .before .args .leaders .now) (c .before .before .before .before .before .before .before .before .before .before .before .before .before .before .before .before .before .before .before .before .before .before .before .before .before .before .before .args .q) (4 * c .before .before .before .before .before .before .before .before .before .before .before .before .before .before .before .before .before .before .before .before .before .before .before .before .before .before .before .args .q) (c .before .before .before .before .before .before .before .before .before .before .before .before .before .before .before .before .before .before .before .before .before .before .before .before .before .before .before .pre .0 .leaders-n) (c .before .before .before .before .before .before .before .before .before .before .before .before .before .before .before .before .before .before .before .before .before .before .before .before .before .before .before .pre .3) (omega arith) (omega arith))) (c .before .before .before .before .before .before .before .before .before .before .before .before .add-link2 .ensures (4 * c .before .before .before .before .before .before .before .before .before .before .before .before .before .before .before .before .before .before .before .before .before .before .before .before .before .before .before .args .q + 1) (owner (c .before .before .before .before .before .before .before .before .before .before .before .before .before .before .before .before .before .before .before .before .before .before .before .before .before .before .before .args .n) (c .before .before .before .before .before .before .before .before .before .before .before .before .before .before .before .before .before .before .before .before .before .before .before .before .before .before .before .args .leaders .now) (c .before .before .before .before .before .before .before .before .before .before .before .before .before .before .before .before .before .before .before .before .before .before .before .before .before .before .before .args .q) (4 * c .before .before .before .before .before .before .before .before .before .before .before .before .before .before .before .before .before .before .before .before .before .before .before .before .before .before .before .args .q + 1) (c .before .before .before .before .before .before .before .before .before .before .before .before .before .before .before .before .before .before .before .before .before .before .before .before .before .before .before .pre .0 .leaders-n) (c .before .before .before .before .before .before .before .before .before .before .before .before .before .before .before .before .before .before .before .before .before .before .before .before .before .before .before .pre .3) (omega arith) (omega arith))) (c .before .before .before .before .before .before .before .add-link3 .ensures (4 * c .before .before .before .before .before .before .before .before .before .before .before .before .before .before .before .before .before .before .before .before .before .before .before .before .before .before .before .args .q + 2) (owner (c .before .before .before .before .before .before .before .before .before .before .before .before .before .before .before .before .before .before .before .before .before .before .before .before .before .before .before .args .n) (c .before .before .before .before .before .before .before .before .before .before .before .before .before .before .before .before .before .before .before .before .before .before .before .before .before .before .before .args .leaders .now) (c .before .before .before .before .before .before .before .before .before .before .before .before .before .before .before .before .before .before .before .before .before .before .before .before .before .before .before .args .q) (4 * c .before .before .before .before .before .before .before .before .before .before .before .before .before .before .before .before .before .before .before .before .before .before .before .before .before .before .before .args .q + 2) (c .before .before .before .before .before .before .before .before .before .before .before .before .before .before .before .before .before .before .before .before .before .before .before .before .before .before .before .pre .0 .leaders-n) (c .before .before .before .before .before .before .before .before .before .before .before .before .before .before .before .before .before .before .before .before .before .before .before .before .before .before .before .pre .3) (omega arith) (omega arith))) (c .before .before .add-link4 .ensures (4 * c .before .before .before .before .before .before .before .before .before .before .before .before .before .before .before .before .before .before .before .before .before .before .before .before .before .before .before .args .q + 3) (owner (c .before .before .before .before .before .before .before .before .before .before .before .before .before .before .before .before .before .before .before .before .before .before .before .before .before .before .before .args .n) (c .before .before .before .before .before .before .before .before .before .before .before .before .before .before .before .before .before .before .before .before .before .before .before .before .before .before .before .args .leaders .now) (c .before .before .before .before .before .before .before .before .before .before .before .before .before .before .before .before .before .before .before .before .before .before .before .before .before .before .before .args .q) (4 * c .before .before .before .before .before .before .before .before .before .before .before .before .before .before .before .before .before .before .before .before .before .before .before .before .before .before .before .args .q + 3) (c .before .before .before .before .before .before .before .before .before .before .before .before .before .before .before .before .before .before .before .before .before .before .before .before .before .before .before .pre .0 .leaders-n) (c .before .before .before .before .before .before .before .before .before .before .before .before .before .before .before .before .before .before .before .before .before .before .before .before .before .before .before .pre .3) (omega arith) (omega arith)))
 
 pub add-links-spec : {M : Type 1} → statement M
 add-links-spec =
     tie.close
     (tie.spec
-    Inv-loop
-    μ-loop
-    loop-holds
-    mul-loop
-    mul-t
-    shared-slice-read-t
-    cast-t
-    mul-l
-    shared-slice-read-l
-    cast-l
-    mul-o
-    shared-slice-read-o
-    cast-o
-    mul-counts
-    slice-read-counts
-    add-counts
-    mul-counts-2
-    slice-write-counts
-    add-i
-    loop-less
-    loop-again
+    four-requires
+    returns
+    mul-own
+    shared-slice-read-own
+    cast-own
+    mul-add-link
+    mul-add-link-2
+    shared-slice-read-add-link
+    add-link-requires
     same-length
-    returns)
+    returns-2
+    mul-add-link-3
+    add-add-link
+    mul-add-link-4
+    shared-slice-read-add-link-2
+    add-link-requires-2
+    mul-add-link-5
+    add-add-link-2
+    mul-add-link-6
+    shared-slice-read-add-link-3
+    add-link-requires-3
+    mul-add-link-7
+    add-add-link-3
+    mul-add-link-8
+    shared-slice-read-add-link-4
+    add-link-requires-4
+    same-length-2
+    returns-3)

@@ -1,42 +1,77 @@
--- `sound::counts_found` meets its contract: the counts below p are those counted. Assumes nothing.
-use Prim.Native.Nat.{ℕ, _-_, _≤_}
+-- `sound::counts_found` meets its contract: the faults counted are those of the counts below p. Assumes nothing.
+use borrow.Author.Needs.{needs}
+use Prim.Native.Nat.{ℕ, _+_, _-_, _*_, _≤_}
 use native.Mathlib.Omega.{arith}
 use mathlib.Core.Path.{_≡_, subst}
-use Rattle.sound.specs.Says.{Below, says-yes, says-no, below-none, below-more, said-yes, said-no}
+use Rattle.sound.specs.Says.{Says, Below}
+use Rattle.sound.specs.Faults.{Faults, faults-start, faults-more, faults-both, faults-at, faults-say}
 use Rattle.sound.specs.Counted.{CountFound}
 use Rattle.sound.proofs.counts_found.Statement.{statement}
 use Rattle.sound.proofs.counts_found.Tie as tie
+use Rattle.sound.proofs.count_fault.Reads as count-fault-reads
+use Rattle.sound.proofs.idle_fault.Reads as idle-fault-reads
 
 abbrev Inv-loop : tie.InvT-loop
-Inv-loop n leaders counts work p₀ p = (p ≤ n) × Below (CountFound n leaders counts work) p
+Inv-loop n leaders counts work faults₀ p₀ faults p = (p ≤ n) × Faults (Below (CountFound n leaders counts work) p) (2 * p) faults
 
 abbrev μ-loop : tie.MeasureT-loop
-μ-loop n leaders counts work p₀ p = n - p
+μ-loop n leaders counts work faults₀ p₀ faults p = n - p
 
 loop-holds : tie.Need-loop-holds Inv-loop μ-loop
-loop-holds c = (omega arith, below-none (CountFound (c .before .before .before .args .n) (c .before .before .before .args .leaders .now) (c .before .before .before .args .counts .now) (c .before .before .before .args .work .now)))
+loop-holds c = (omega arith, faults-start (CountFound (c .before .before .before .args .n) (c .before .before .before .args .leaders .now) (c .before .before .before .args .counts .now) (c .before .before .before .args .work .now)))
 
-count-found-requires : tie.Need-count-found-requires Inv-loop μ-loop
-count-found-requires c κs = (c .before .before .before .before .before .pre .0, c .before .before .before .before .before .pre .1, c .before .before .before .before .before .pre .2, c .before .before .before .before .before .pre .3, omega (arith, c .loop-test .taken))
+mul-count : tie.Need-mul-count Inv-loop μ-loop
+mul-count c = omega (arith, c .before .before .before .before .before .pre .0, c .before .before .before .before .before .pre .1, c .before .before .before .before .before .pre .2, c .before .before .before .before .before .pre .3, c .loop-test .taken)
 
-returns : tie.Need-returns Inv-loop μ-loop
-returns c = says-no (λ w. said-no (c .before .count-found .ensures) (c .if1 .taken) (w (c .before .before .before .loop .p) (c .before .before .loop-test .taken)))
+shared-slice-read-count : tie.Need-shared-slice-read-count Inv-loop μ-loop
+shared-slice-read-count c = omega (arith, c .before .before .before .before .before .before .pre .0, c .before .before .before .before .before .before .pre .1, c .before .before .before .before .before .before .pre .2, c .before .before .before .before .before .before .pre .3, c .before .loop-test .taken)
+
+mul-count-fault : tie.Need-mul-count-fault Inv-loop μ-loop
+mul-count-fault c = omega (arith, c .before .before .before .before .before .before .pre .0, c .before .before .before .before .before .before .pre .1, c .before .before .before .before .before .before .pre .2, c .before .before .before .before .before .before .pre .3, c .before .loop-test .taken)
+
+add-count-fault : tie.Need-add-count-fault Inv-loop μ-loop
+add-count-fault c = omega (arith, c .before .before .before .before .before .before .pre .0, c .before .before .before .before .before .before .pre .1, c .before .before .before .before .before .before .pre .2, c .before .before .before .before .before .before .pre .3, c .before .loop-test .taken)
+
+mul-count-fault-2 : tie.Need-mul-count-fault-2 Inv-loop μ-loop
+mul-count-fault-2 c = omega (arith, c .before .before .before .before .before .before .pre .0, c .before .before .before .before .before .before .pre .1, c .before .before .before .before .before .before .pre .2, c .before .before .before .before .before .before .pre .3, c .before .loop-test .taken)
+
+shared-slice-read-count-fault : tie.Need-shared-slice-read-count-fault Inv-loop μ-loop
+shared-slice-read-count-fault c = omega (arith, c .before .before .before .before .before .before .before .pre .0, c .before .before .before .before .before .before .before .pre .1, c .before .before .before .before .before .before .before .pre .2, c .before .before .before .before .before .before .before .pre .3, c .before .before .loop-test .taken)
+
+count-fault-requires : tie.Need-count-fault-requires Inv-loop μ-loop
+count-fault-requires c κs = search needs
+
+add-faults : tie.Need-add-faults Inv-loop μ-loop
+add-faults c = omega (arith, c .before .before .before .before .before .before .before .before .pre .0, c .before .before .before .loop-test .taken, c .before .before .before .before .loop .inv .1 .most, c .count-fault .ensures .most)
+
+mul-idle-fault : tie.Need-mul-idle-fault Inv-loop μ-loop
+mul-idle-fault c = omega (arith, c .before .before .before .before .before .before .before .before .pre .0, c .before .before .before .before .before .before .before .before .pre .1, c .before .before .before .before .before .before .before .before .pre .2, c .before .before .before .before .before .before .before .before .pre .3, c .before .before .before .loop-test .taken)
+
+shared-slice-read-idle-fault : tie.Need-shared-slice-read-idle-fault Inv-loop μ-loop
+shared-slice-read-idle-fault c = omega (arith, c .before .before .before .before .before .before .before .before .before .pre .0, c .before .before .before .before .before .before .before .before .before .pre .1, c .before .before .before .before .before .before .before .before .before .pre .2, c .before .before .before .before .before .before .before .before .before .pre .3, c .before .before .before .before .loop-test .taken)
+
+cast-idle-fault : tie.Need-cast-idle-fault Inv-loop μ-loop
+cast-idle-fault c = omega (arith, c .before .before .before .before .before .before .before .before .before .pre .0, c .before .before .before .before .before .before .before .before .before .pre .1, c .before .before .before .before .before .before .before .before .before .pre .2, c .before .before .before .before .before .before .before .before .before .pre .3, c .before .before .before .before .loop-test .taken)
+
+idle-fault-requires : tie.Need-idle-fault-requires Inv-loop μ-loop
+idle-fault-requires c κs = search needs
+
+add-faults-2 : tie.Need-add-faults-2 Inv-loop μ-loop
+add-faults-2 c = omega (arith, c .before .before .before .before .before .before .before .before .before .before .pre .0, c .before .before .before .before .before .loop-test .taken, c .before .before .before .before .before .before .loop .inv .1 .most, c .before .before .count-fault .ensures .most, c .idle-fault .ensures .most)
 
 add-p : tie.Need-add-p Inv-loop μ-loop
-add-p c = omega (arith, c .before .before .before .before .before .before .before .pre .0, c .before .before .loop-test .taken)
+add-p c = omega (arith, c .before .before .before .before .before .before .before .before .before .before .pre .0, c .before .before .before .before .before .loop-test .taken)
 
 loop-less : tie.Need-loop-less Inv-loop μ-loop
-loop-less c = omega (arith, c .before .before .loop-test .taken)
+loop-less c = omega (arith, c .before .before .before .before .before .loop-test .taken)
 
 loop-again : tie.Need-loop-again Inv-loop μ-loop
-loop-again c = (omega (arith, c .before .before .loop-test .taken), below-more (CountFound (c .before .before .before .before .before .before .before .args .n) (c .before .before .before .before .before .before .before .args .leaders .now) (c .before .before .before .before .before .before .before .args .counts .now) (c .before .before .before .before .before .before .before .args .work .now)) (c .before .before .before .loop .p) (c .before .before .before .loop .inv .1) (said-yes (c .before .count-found .ensures) (c .if1 .left)))
+loop-again c = (omega (arith, c .before .before .before .before .before .loop-test .taken), faults-at (omega arith) (omega arith) (faults-more (CountFound (c .before .before .before .before .before .before .before .before .before .before .args .n) (c .before .before .before .before .before .before .before .before .before .before .args .leaders .now) (c .before .before .before .before .before .before .before .before .before .before .args .counts .now) (c .before .before .before .before .before .before .before .before .before .before .args .work .now)) (c .before .before .before .before .before .before .loop .p) (c .before .before .before .before .before .before .loop .inv .1) (faults-both (c .before .before .count-fault .ensures) (c .idle-fault .ensures))))
 
-returns-2 : tie.Need-returns-2 Inv-loop μ-loop
-returns-2 c =
-    let s = c .before .before .before .before .before .args in
-    let l = c .before .loop in
-    let e : l .p ≡ s .n = omega (arith, c .loop-test .left, c .before .loop .inv .0) in
-    says-yes (subst (λ (k : ℕ). Below (CountFound (s .n) (s .leaders .now) (s .counts .now) (s .work .now)) k) e (l .inv .1))
+returns : tie.Need-returns Inv-loop μ-loop
+returns c =
+    let e : c .before .loop .p ≡ c .before .before .before .before .before .args .n = omega (arith, c .loop-test .left, c .before .loop .inv .0) in
+    faults-say (subst (λ (k : ℕ). Faults (Below (CountFound (c .before .before .before .before .before .args .n) (c .before .before .before .before .before .args .leaders .now) (c .before .before .before .before .before .args .counts .now) (c .before .before .before .before .before .args .work .now)) k) (2 * k) (c .before .loop .faults)) e (c .before .loop .inv .1))
 
 pub counts-found-spec : {M : Type 1} → statement M
 counts-found-spec =
@@ -45,9 +80,20 @@ counts-found-spec =
     Inv-loop
     μ-loop
     loop-holds
-    count-found-requires
-    returns
+    mul-count
+    shared-slice-read-count
+    mul-count-fault
+    add-count-fault
+    mul-count-fault-2
+    shared-slice-read-count-fault
+    count-fault-requires
+    add-faults
+    mul-idle-fault
+    shared-slice-read-idle-fault
+    cast-idle-fault
+    idle-fault-requires
+    add-faults-2
     add-p
     loop-less
     loop-again
-    returns-2)
+    returns)

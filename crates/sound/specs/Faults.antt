@@ -1,0 +1,42 @@
+-- Faults counted over all pieces: none exactly if every piece is right.
+use mathlib.Core.Path.{_≡_, refl}
+use Prim.Native.Nat.{ℕ, _+_, _≤_, _<_}
+use native.Mathlib.Omega.{arith}
+use lib.Dec.{eqb}
+use Rattle.sound.specs.Says.{Says, Below, says-eq, below-none, below-more}
+
+-- r is 0 exactly if P holds, and at most k
+pub record Faults (P : Type 0) (k r : ℕ) : Type 0 where
+  pub most : r ≤ k
+  pub right : r ≡ 0 → P
+  pub none : P → r ≡ 0
+
+pub fault-none : {P : Type 0} → P → Faults P 1 0
+fault-none p = record { most = omega arith; right = λ _. p; none = λ _. refl }
+
+pub fault-one : {P : Type 0} → (P → ⊥) → Faults P 1 1
+fault-one f = record { most = omega arith; right = λ e. absurd (omega arith); none = λ p. absurd (f p) }
+
+-- the same number, with a higher bound
+pub faults-at : {P : Type 0} {j k r s : ℕ} → j ≤ k → r ≡ s → Faults P j r → Faults P k s
+faults-at l e a = record { most = omega (arith, a .most); right = λ z. a .right (omega arith); none = λ p. omega (arith, a .none p) }
+
+pub faults-both : {P Q : Type 0} {j k r s : ℕ} → Faults P j r → Faults Q k s → Faults (P × Q) (j + k) (r + s)
+faults-both a b = record {
+  most = omega (arith, a .most, b .most);
+  right = λ e. (a .right (omega arith), b .right (omega arith));
+  none = λ x. omega (arith, a .none (x .0), b .none (x .1));
+}
+
+pub faults-start : (P : ℕ → Type 0) → Faults (Below P 0) 0 0
+faults-start P = record { most = omega arith; right = λ _. below-none P; none = λ _. refl }
+
+pub faults-more : (P : ℕ → Type 0) (p : ℕ) {j k r s : ℕ} → Faults (Below P p) j r → Faults (P p) k s → Faults (Below P (p + 1)) (j + k) (r + s)
+faults-more P p a b = record {
+  most = omega (arith, a .most, b .most);
+  right = λ e. below-more P p (a .right (omega arith)) (b .right (omega arith));
+  none = λ f. omega (arith, a .none (λ q h. f q (omega arith)), b .none (f p (omega arith)));
+}
+
+pub faults-say : {P : Type 0} {k r : ℕ} → Faults P k r → Says P (eqb r 0)
+faults-say {r = r} a = says-eq r 0 (a .right) (a .none)
