@@ -1,21 +1,20 @@
 -- Freeze of a draft: what the search finished, turned, is what the rules freeze, with the leaders and counts of the finished store.
-use mathlib.Core.Path.{_≡_, refl, sym, ap, ap₂, _∙_, subst}
-use mathlib.Core.List.{List, [], _∷_, _++_}
-use mathlib.Core.Logic.{_⊎_, inl, inr, ⊎-elim, _≢_}
-use mathlib.Core.Bool.{Bool, true, false, not}
-use Prim.Native.Nat.{ℕ, zero, suc, _+_, _*_, _≤_, _<_}
+use mathlib.Core.Path.{_≡_, sym, ap, _∙_, subst}
+use mathlib.Core.List.{List}
+use mathlib.Core.Logic.{_⊎_, inr, ⊎-elim}
+use mathlib.Core.Bool.{not}
+use Prim.Native.Nat.{ℕ, _+_, _*_, _<_}
 use native.Mathlib.Omega.{arith}
-use lib.Dec.{T, T-not, not-T, eqb}
-use lib.ListN.{length, getD, set, drop, replicate, length-set}
+use lib.Dec.{T, T-not}
+use lib.ListN.{length, getD, set}
 use lib.Seq.{ext-getD}
 use Rattle.rules.specs.Tests.{_&_, pick}
 use Rattle.rules.specs.Limits.{none}
 use Rattle.rules.specs.Below.{table}
-use Rattle.rules.specs.Reach.{Reach}
 use Rattle.rules.specs.Tables.{Base, Store, state, isDraft, isFrozen, linkAt, reaches, finish}
-use Rattle.rules.specs.Words.{Frozen, Reaches, Group, Leader, Well, SizedBase}
+use Rattle.rules.specs.Words.{Frozen, Reaches, Leader}
 use Rattle.rules.specs.Commands.{oneMore, freezeFirst, edit, settles, after, nextStore}
-use Rattle.rules.specs.Calls.{storeOf, Ready, Clear}
+use Rattle.rules.specs.Calls.{storeOf}
 use Rattle.rules.specs.declared.Command.the-variants.{Freeze}
 use Rattle.laws.specs.Tests.{and-both, and-left, and-right}
 use Rattle.laws.specs.Below.{T-dec, pick-true, pick-false, length-table, getD-table}
@@ -25,12 +24,11 @@ use Rattle.laws.specs.Commands.{freeze-first-good}
 use Rattle.tallies.specs.Sums.{getD-any}
 use Rattle.tallies.specs.Tally.{label, CountsMatch}
 use Rattle.tallies.specs.Exact.{Exact}
-use Rattle.tallies.specs.Adding.{Labelled, Tallied}
-use Rattle.tallies.specs.Stores.{good-of, wells-of, exact-of}
+use Rattle.tallies.specs.Stores.{good-of, exact-of}
 use Rattle.tallies.specs.Finished.{finished}
-use Rattle.paths.specs.Ground.{_!_, named, Lead, ground, Closed}
+use Rattle.paths.specs.Ground.{_!_}
 use Rattle.paths.specs.Search as search
-use Rattle.paths.specs.Classes.{frozen-stays, lead-leader, drafts-closed}
+use Rattle.paths.specs.Classes.{frozen-stays, lead-leader}
 use Rattle.groups.specs.Marked.{Marked, Reached}
 use Rattle.freezing.specs.Turned.{Turned, Draft}
 
@@ -152,13 +150,10 @@ module _ (n : ℕ) (states links leaders holds counts work : List ℕ) (p : ℕ)
 
     -- ---- the whole freeze
 
-    holds′ : List ℕ
-    holds′ = set holds p 1
-
-    pub frozen : (counts₀ counts′ : List ℕ) → length counts₀ ≡ n → Tallied n links (set holds p 1) leaders′ counts₀ counts′
+    pub frozen : (counts′ : List ℕ) → length counts′ ≡ n → CountsMatch n links (set holds p 1) leaders′ counts′
         → storeOf n states′ links leaders′ (set holds p 1) counts′ ≡ nextStore s (Freeze p)
     unfolding nextStore b′ freezeFirst
-    frozen counts₀ counts′ z c = tables ∙ finished b′ leaders′ exact′ (good′ .wells) counts′ (c .size ∙ z) (c .matches) ∙ ap finish (sym after-is)
+    frozen counts′ z c = tables ∙ finished b′ leaders′ exact′ (good′ .wells) counts′ z c ∙ ap finish (sym after-is)
       where
         tables : storeOf n states′ links leaders′ (set holds p 1) counts′ ≡ record { base = b′; leaders = leaders′; counts = counts′ }
         tables = ap (λ (x : List ℕ). storeOf n x links leaders′ (set holds p 1) counts′) states-are

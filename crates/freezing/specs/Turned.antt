@@ -11,14 +11,6 @@ use Rattle.rules.specs.Calls.{storeOf, Ready, Clear}
 use Rattle.paths.specs.Ground.{_!_}
 use Rattle.paths.specs.Search.{finished}
 
--- the areas in their lengths, with leaders that fit
-pub record Turning (n : ℕ) (states leaders work : List ℕ) : Type 0 where
-  pub small : n ≤ 1024
-  pub states-n : length states ≡ n
-  pub leaders-n : length leaders ≡ n
-  pub work-n : 3 * n ≤ length work
-  pub fit : (p : ℕ) → p < n → work ! p ≡ finished → work ! (2 * n + p) < 65536
-
 -- of the first k pieces, those finished have become frozen, with their leaders; all else is as it was
 pub record Turned (n : ℕ) (states leaders work : List ℕ) (k : ℕ) (states′ leaders′ : List ℕ) : Type 0 where
   pub states-n : length states′ ≡ length states

@@ -1,0 +1,53 @@
+-- `freezing::leader_of` meets its contract: the two cases of the fresh leaders. Assumes nothing.
+use native.Mathlib.Omega.{arith}
+use Prim.Native.Nat.{_+_, _*_}
+use mathlib.Core.Path.{sym}
+use Rattle.freezing.specs.Fresh.{fresh-on, fresh-off}
+use borrow.Author.Needs.{needs}
+use Rattle.freezing.proofs.leader_of.Statement.{statement}
+use Rattle.freezing.proofs.leader_of.Tie as tie
+
+mul-if1 : tie.Need-mul-if1
+mul-if1 c = search needs
+
+shared-slice-read-if1 : tie.Need-shared-slice-read-if1
+shared-slice-read-if1 c = search needs
+
+mul-result : tie.Need-mul-result
+mul-result c = search needs
+
+add-result : tie.Need-add-result
+add-result c = search needs
+
+mul-result-2 : tie.Need-mul-result-2
+mul-result-2 c = search needs
+
+shared-slice-read-result : tie.Need-shared-slice-read-result
+shared-slice-read-result c = search needs
+
+cast-result : tie.Need-cast-result
+cast-result c = omega (arith, c .shared-slice-known2 .given (2 * c .before .before .before .args .n + c .before .before .before .args .q))
+
+returns : tie.Need-returns
+returns c = let a = c .before .before .before .args in sym (fresh-on (a .n) (a .work .now) (a .q) (c .before .before .before .pre .2) (c .before .if1 .taken))
+
+cast-result-2 : tie.Need-cast-result-2
+cast-result-2 c = search needs
+
+returns-2 : tie.Need-returns-2
+returns-2 c = let a = c .before .before .args in sym (fresh-off (a .n) (a .work .now) (a .q) (c .before .before .pre .2) (c .if1 .left))
+
+pub leader-of-spec : {M : Type 1} → statement M
+leader-of-spec =
+    tie.close
+    (tie.spec
+    mul-if1
+    shared-slice-read-if1
+    mul-result
+    add-result
+    mul-result-2
+    shared-slice-read-result
+    cast-result
+    returns
+    cast-result-2
+    returns-2)
