@@ -1,53 +1,25 @@
 -- Counting up: what a piece's holds and each of its places add to the counts of the labels.
-use mathlib.Core.Path.{_≡_, refl, sym, ap, _∙_}
-use mathlib.Core.Logic.{⊎-elim}
+use mathlib.Core.Path.{_≡_, sym, ap, _∙_}
 use mathlib.Core.List.{List}
 use Prim.Native.Nat.{ℕ, _+_, _*_, _/_, _≤_, _<_}
 use native.Mathlib.Omega.{arith}
 use lib.Dec.{eqb}
-use lib.ListN.{length, set, length-set, drop}
-use lib.Seq.{drop-set-lt}
+use lib.ListN.{length, set}
 use borrow.Author.Tests.{eq-eqb, ne-eqb}
 use Rattle.rules.specs.Limits.{none}
 use Rattle.rules.specs.Below.{sum}
 use Rattle.laws.specs.Below.{sum-next}
 use Rattle.laws.specs.Counts.{sum-most}
 use Rattle.areas.specs.Four.{Four, fourNone, oneAtMost}
-use Rattle.tallies.specs.Sums.{set-cases, getD-any, onlyIf-true, onlyIf-false, onlyIf-most}
+use Rattle.tallies.specs.Sums.{getD-any, onlyIf-true, onlyIf-false, onlyIf-most}
 use Rattle.tallies.specs.Tally.{_!_, label, cross, held, placed, tally}
-use Rattle.tallies.specs.Moves.{cross-in, cross-off, cross-on, cross-most}
+use Rattle.tallies.specs.Moves.{cross-off, cross-most}
 use Rattle.tallies.specs.Exact.{label-past}
-use Rattle.tallies.specs.Adding.{Labelled, Tallied}
-
--- each count below n has f of its label more
-pub record Added (n : ℕ) (f : ℕ → ℕ) (c c′ : List ℕ) : Type 0 where
-  pub size : length c′ ≡ length c
-  pub sums : (l : ℕ) → l < n → c′ ! l ≡ c ! l + f l
-  pub later : drop n c′ ≡ drop n c
+use Rattle.tallies.specs.Adding.{Labelled, Tallied, Added, added-none, added-one, added-then, added-same}
 
 -- there is room for one more of 16 bits in every count
 abbrev pub Room : ℕ → List ℕ → Type 0
 Room n counts = (l : ℕ) → l < n → counts ! l ≤ 4294901759
-
-pub added-none : (n : ℕ) (f : ℕ → ℕ) (c : List ℕ) → ((l : ℕ) → l < n → f l ≡ 0) → Added n f c c
-added-none n f c h = record { size = refl; sums = λ l u. omega (arith, h l u); later = refl }
-
-pub added-one : (n : ℕ) (f : ℕ → ℕ) (c : List ℕ) (l m : ℕ) → l < n → n ≤ length c → f l ≡ m → ((j : ℕ) → j < n → (j ≡ l → ⊥) → f j ≡ 0) → Added n f c (set c l (c ! l + m))
-added-one n f c l m h z e g = record {
-  size = length-set c l (c ! l + m);
-  sums = λ j u.
-      ⊎-elim
-      (λ w. omega (arith, w .1, ap (λ (y : ℕ). c ! y) (w .0), ap f (w .0)))
-      (λ w. omega (arith, w .1, g j u (w .0)))
-      (set-cases c l (c ! l + m) j 0 (omega arith));
-  later = drop-set-lt n c l (c ! l + m) h;
-}
-
-pub added-then : {n : ℕ} {f g : ℕ → ℕ} {a b c : List ℕ} → Added n f a b → Added n g b c → Added n (λ l. f l + g l) a c
-added-then x y = record { size = y .size ∙ x .size; sums = λ l h. omega (arith, x .sums l h, y .sums l h); later = y .later ∙ x .later }
-
-pub added-same : {n : ℕ} {f g : ℕ → ℕ} {a b : List ℕ} → ((l : ℕ) → l < n → f l ≡ g l) → Added n f a b → Added n g a b
-added-same e x = record { size = x .size; sums = λ l h. omega (arith, x .sums l h, e l h); later = x .later }
 
 -- ---- the holds of a piece
 
@@ -76,29 +48,6 @@ hold-fits holds leaders q b a l h = omega (arith, a .sums l h, onlyIf-most (eqb 
 -- a place of a piece with label own that names t is counted
 abbrev pub LinkAdded : ℕ → List ℕ → ℕ → ℕ → List ℕ → List ℕ → Type 0
 LinkAdded n leaders own t c c′ = (i : ℕ) → label leaders (i / 4) ≡ own → Added n (λ l. cross leaders l i t) c c′
-
-module _ (n : ℕ) (leaders counts : List ℕ) (z : Labelled n leaders counts) (own t i : ℕ) (o : label leaders (i / 4) ≡ own) where
-  pub link-past : n ≤ t → Added n (λ l. cross leaders l i t) counts counts
-  link-past h = added-none n (λ l. cross leaders l i t) counts (λ l u. cross-off leaders l i t (λ e. omega (arith, label-past n leaders t (z .leaders-n) h, z .small)))
-
-  label-t : t < n → label leaders t ≡ leaders ! t
-  label-t h = getD-any leaders t none 0 (omega (arith, z .leaders-n))
-
-  pub link-none : t < n → n ≤ leaders ! t → Added n (λ l. cross leaders l i t) counts counts
-  link-none h g = added-none n (λ l. cross leaders l i t) counts (λ l u. cross-off leaders l i t (λ e. omega (arith, label-t h)))
-
-  pub link-same : t < n → leaders ! t ≡ own → Added n (λ l. cross leaders l i t) counts counts
-  link-same h e = added-none n (λ l. cross leaders l i t) counts (λ l u. cross-in leaders l i t (label-t h ∙ e ∙ sym o))
-
-  pub link-hit : t < n → leaders ! t < n → (leaders ! t ≡ own → ⊥) → Added n (λ l. cross leaders l i t) counts (set counts (leaders ! t) (counts ! (leaders ! t) + 1))
-  link-hit h g d =
-      added-one n (λ l. cross leaders l i t) counts (leaders ! t) 1 g (z .counts-n)
-      (cross-on leaders (leaders ! t) i t (label-t h) (λ e. d (sym e ∙ o)))
-      (λ j u f. cross-off leaders j i t (λ e. f (sym e ∙ label-t h)))
-
--- the counts keep their labels
-pub still : {n : ℕ} {f : ℕ → ℕ} {leaders c c′ : List ℕ} → Labelled n leaders c → Added n f c c′ → Labelled n leaders c′
-still z a = record { small = z .small; leaders-n = z .leaders-n; counts-n = omega (arith, z .counts-n, a .size) }
 
 -- the piece of a place
 pub owner : (n : ℕ) (leaders : List ℕ) (q i : ℕ) → length leaders ≡ n → q < n → 4 * q ≤ i → i ≤ 4 * q + 3 → label leaders (i / 4) ≡ leaders ! q

@@ -3,8 +3,8 @@ ghost use mathlib.Core.Path.{_≡_};
 ghost use Prim.Native.Nat.{ℕ, _*_, _≤_, _<_};
 ghost use lib.ListN.{length};
 ghost use Rattle.tallies.specs.Tally.{_!_, held};
-ghost use Rattle.tallies.specs.Adding.{Labelled, Tallied};
-ghost use Rattle.counts.specs.Added.{Added, LinkAdded, Room, fourPlaces};
+ghost use Rattle.tallies.specs.Adding.{Labelled, Tallied, Added};
+ghost use Rattle.counts.specs.Added.{LinkAdded, Room, fourPlaces};
 
 // Adds the holds of a piece to the count of its label.
 fn add_hold(n: usize, holds: &[u16], leaders: &[u16], counts: &mut [u32], q: usize)

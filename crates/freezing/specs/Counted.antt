@@ -16,7 +16,7 @@ use Rattle.tallies.specs.Sums.{eq-or, lt-or, getD-any}
 use Rattle.tallies.specs.Tally.{label, CountsMatch}
 use Rattle.tallies.specs.Moves.{tally-most, match-hold}
 use Rattle.tallies.specs.Exact.{Exact, label-past, label-frozen}
-use Rattle.tallies.specs.Adding.{LinksAdded}
+use Rattle.tallies.specs.Places.{LinksAdded}
 use Rattle.tallies.specs.Stores.{wells-of, exact-of, match-of, holds-most, counts-most}
 use Rattle.paths.specs.Ground.{_!_}
 use Rattle.paths.specs.Search as search

@@ -12,7 +12,8 @@ use Rattle.rules.specs.Below.{table}
 use Rattle.laws.specs.Below.{pick-true, pick-false, length-table, getD-table}
 use Rattle.laws.specs.Words.{eqb-of, neqb-of}
 use Rattle.tallies.specs.Sums.{lt-or}
-use Rattle.tallies.specs.Adding.{Labelled, LinksAdded, links-none, skip-past, skip-none}
+use Rattle.tallies.specs.Adding.{Labelled}
+use Rattle.tallies.specs.Places.{LinksAdded, links-none, skip-past, skip-none}
 use Rattle.paths.specs.Ground.{_!_}
 use Rattle.paths.specs.Search.{finished}
 use Rattle.freezing.specs.Turned.{Turned, turned-none, turned-past}

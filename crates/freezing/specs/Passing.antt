@@ -7,7 +7,8 @@ use Prim.Native.Nat.{ℕ, zero, suc, _+_, _*_, _/_, _≤_, _<_}
 use native.Mathlib.Omega.{arith}
 use lib.ListN.{length, set, length-set}
 use Rattle.tallies.specs.Sums.{lt-or}
-use Rattle.tallies.specs.Adding.{Labelled, LinksAdded, links-hit, skip-past, skip-none, skip-same}
+use Rattle.tallies.specs.Adding.{Labelled}
+use Rattle.tallies.specs.Places.{LinksAdded, links-hit, skip-past, skip-none, skip-same}
 use Rattle.paths.specs.Ground.{_!_}
 use Rattle.paths.specs.Search.{finished}
 use Rattle.freezing.specs.Turned.{turned-past, turned-on}

@@ -1,9 +1,13 @@
--- Counting up: what the tables are, and what is counted.
-use mathlib.Core.Path.{_≡_}
+-- Counting up: what the tables are, what is counted, and what is added on the way.
+use mathlib.Core.Path.{_≡_, refl, ap, _∙_}
+use mathlib.Core.Logic.{⊎-elim}
 use mathlib.Core.List.{List}
-use Prim.Native.Nat.{ℕ, _≤_}
-use lib.ListN.{length, drop}
-use Rattle.tallies.specs.Tally.{CountsMatch}
+use Prim.Native.Nat.{ℕ, _+_, _≤_, _<_}
+use native.Mathlib.Omega.{arith}
+use lib.ListN.{length, set, length-set, drop}
+use lib.Seq.{drop-set-lt}
+use Rattle.tallies.specs.Sums.{set-cases}
+use Rattle.tallies.specs.Tally.{_!_, CountsMatch}
 
 -- each piece has a label, and each label a count
 pub record Labelled (n : ℕ) (leaders counts : List ℕ) : Type 0 where
@@ -16,3 +20,33 @@ pub record Tallied (n : ℕ) (links holds leaders counts₀ counts : List ℕ) :
   pub size : length counts ≡ length counts₀
   pub matches : CountsMatch n links holds leaders counts
   pub later : drop n counts ≡ drop n counts₀
+
+-- each count below n has f of its label more
+pub record Added (n : ℕ) (f : ℕ → ℕ) (c c′ : List ℕ) : Type 0 where
+  pub size : length c′ ≡ length c
+  pub sums : (l : ℕ) → l < n → c′ ! l ≡ c ! l + f l
+  pub later : drop n c′ ≡ drop n c
+
+pub added-none : (n : ℕ) (f : ℕ → ℕ) (c : List ℕ) → ((l : ℕ) → l < n → f l ≡ 0) → Added n f c c
+added-none n f c h = record { size = refl; sums = λ l u. omega (arith, h l u); later = refl }
+
+pub added-one : (n : ℕ) (f : ℕ → ℕ) (c : List ℕ) (l m : ℕ) → l < n → n ≤ length c → f l ≡ m → ((j : ℕ) → j < n → (j ≡ l → ⊥) → f j ≡ 0) → Added n f c (set c l (c ! l + m))
+added-one n f c l m h z e g = record {
+  size = length-set c l (c ! l + m);
+  sums = λ j u.
+      ⊎-elim
+      (λ w. omega (arith, w .1, ap (λ (y : ℕ). c ! y) (w .0), ap f (w .0)))
+      (λ w. omega (arith, w .1, g j u (w .0)))
+      (set-cases c l (c ! l + m) j 0 (omega arith));
+  later = drop-set-lt n c l (c ! l + m) h;
+}
+
+pub added-then : {n : ℕ} {f g : ℕ → ℕ} {a b c : List ℕ} → Added n f a b → Added n g b c → Added n (λ l. f l + g l) a c
+added-then x y = record { size = y .size ∙ x .size; sums = λ l h. omega (arith, x .sums l h, y .sums l h); later = y .later ∙ x .later }
+
+pub added-same : {n : ℕ} {f g : ℕ → ℕ} {a b : List ℕ} → ((l : ℕ) → l < n → f l ≡ g l) → Added n f a b → Added n g a b
+added-same e x = record { size = x .size; sums = λ l h. omega (arith, x .sums l h, e l h); later = x .later }
+
+-- the counts keep their labels
+pub still : {n : ℕ} {f : ℕ → ℕ} {leaders c c′ : List ℕ} → Labelled n leaders c → Added n f c c′ → Labelled n leaders c′
+still z a = record { small = z .small; leaders-n = z .leaders-n; counts-n = omega (arith, z .counts-n, a .size) }

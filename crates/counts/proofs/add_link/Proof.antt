@@ -1,7 +1,7 @@
 -- `counts::add_link` meets its contract: each return is one case of a place that names the target. Assumes nothing.
 use native.Mathlib.Omega.{arith}
 use Rattle.tallies.specs.Tally.{_!_}
-use Rattle.counts.specs.Added.{link-past, link-none, link-same, link-hit}
+use Rattle.tallies.specs.Places.{link-past, link-none, link-same, link-hit}
 use borrow.Author.Needs.{needs}
 use Rattle.counts.proofs.add_link.Statement.{statement}
 use Rattle.counts.proofs.add_link.Tie as tie

@@ -3,7 +3,8 @@ use Prim.Native.Nat.{_+_, _*_}
 use native.Mathlib.Omega.{arith}
 use Rattle.tallies.specs.Tally.{_!_}
 use Rattle.tallies.specs.Moves.{cross-most}
-use Rattle.counts.specs.Added.{four-none, four-one, four-all, still, owner}
+use Rattle.tallies.specs.Adding.{still}
+use Rattle.counts.specs.Added.{four-none, four-one, four-all, owner}
 use borrow.Author.Needs.{needs}
 use Rattle.counts.proofs.add_links.Statement.{statement}
 use Rattle.counts.proofs.add_links.Tie as tie

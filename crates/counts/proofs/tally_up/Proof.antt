@@ -3,7 +3,8 @@ use Prim.Native.Nat.{ℕ, _-_, _≤_}
 use native.Mathlib.Omega.{arith}
 use mathlib.Core.Path.{_≡_, subst}
 use mathlib.Core.List.{List}
-use Rattle.counts.specs.Added.{Added, passed, passed-none, passed-more, passed-fit, tallied, still, hold-fits}
+use Rattle.tallies.specs.Adding.{Added, still}
+use Rattle.counts.specs.Added.{passed, passed-none, passed-more, passed-fit, tallied, hold-fits}
 use Rattle.counts.proofs.tally_up.Statement.{statement}
 use Rattle.counts.proofs.tally_up.Tie as tie
 use Rattle.counts.proofs.add_hold.Reads as add-hold-reads

@@ -4,7 +4,7 @@ use Prim.Native.Nat.{ℕ, _+_, _*_, _/_, _-_, _≤_, _<_}
 use mathlib.Core.Path.{_≡_, sym, ap, _∙_, subst}
 use mathlib.Core.List.{List}
 use mathlib.Core.Logic.{⊎-elim}
-use Rattle.tallies.specs.Adding.{links-fit}
+use Rattle.tallies.specs.Places.{links-fit}
 use Rattle.paths.specs.Ground.{_!_}
 use Rattle.freezing.specs.Fresh.{fresh, labelled-of}
 use Rattle.freezing.specs.Passing.{Added, added-none, added-past, added-old, added-same, added-hit}
