@@ -7,4 +7,5 @@ pub mod End
 pub mod Final
 pub mod Fall
 pub mod Listing
+pub mod Spans
 pub mod Freed

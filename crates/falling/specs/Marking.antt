@@ -17,7 +17,7 @@ use Rattle.tallies.specs.Sums.{eq-or, lt-or, set-cases, sum-room, onlyIf-true, 
 use Rattle.laws.specs.Delta.{sum-change}
 use Rattle.laws.specs.Counts.{sum-most}
 use Rattle.tallies.specs.Tally.{_!_, label}
-use Rattle.falling.specs.Queue.{Marked, isMarked, Erased, Core, Over, spot, Past}
+use Rattle.falling.specs.Queue.{Marked, isMarked, Erased, Queue, Core, Over, spot, Past}
 
 module _ (n : ℕ) (leaders states : List ℕ) (len : length states ≡ n) (y : ℕ) where
   pub marked-keeps : (p : ℕ) → Marked n leaders states p → Marked n leaders (set states y 0) p
@@ -49,6 +49,11 @@ module _ (n : ℕ) (leaders states : List ℕ) (len : length states ≡ n) (y : 
   unfolding isMarked
   isMarked-other p d = ap (λ (x : ℕ). eqb x 0 & ltb (label leaders p) n) (getD-set-other states y p 0 0 d)
 
+-- the queue is no longer than the table
+pub queue-most : (n : ℕ) (leaders states queue : List ℕ) (tail : ℕ) → Queue n leaders states queue tail → tail ≤ n
+queue-most n leaders states queue tail q =
+    omega (arith, q .many, sum-most (λ p. onlyIf (isMarked n leaders states p) 1) 1 n (λ p _. onlyIf-most (isMarked n leaders states p) 1 1 (omega arith)))
+
 module _ (e : Base) (leaders states links counts queue : List ℕ) (tail : ℕ) (c : Core e leaders states links counts queue tail) where
   -- an unmarked piece leaves room in the queue
   pub room : (y : ℕ) → y < e .n → (states ! y ≡ 0 → ⊥) → tail < e .n
@@ -60,7 +65,7 @@ module _ (e : Base) (leaders states links counts queue : List ℕ) (tail : ℕ) 
       )
 
   pub tail-most : tail ≤ e .n
-  tail-most = omega (arith, c .queued .many, sum-most (λ p. onlyIf (isMarked (e .n) leaders states p) 1) 1 (e .n) (λ p _. onlyIf-most (isMarked (e .n) leaders states p) 1 1 (omega arith)))
+  tail-most = queue-most (e .n) leaders states queue tail (c .queued)
 
   module _ (y : ℕ) (l : y < e .n) (h : label leaders y < e .n) (f : states ! y ≡ 0 → ⊥) where
     q-old : (i : ℕ) → i < tail → set queue tail y ! i ≡ queue ! i

@@ -22,8 +22,9 @@ sweep-requires c κs =
       z .small,
       drained .kept .1 .0 ∙ z .states-n,
       z .leaders-n,
-      omega
-          (arith, z .queue-n, drained .kept .1 .1 .1 .1 .1 .0),
+      omega (arith, z .queue-n, drained .kept .1 .1 .1 .1 .1 .0),
+      omega (arith, c .before .before .before .before .before .before .before .before .before .before .before .before .before .before .before .before .before .if1 .left, drained .ensures .grows),
+      drained .ensures .inv (given .states₀) (given .links₀) (given .holds) (given .known) (given .inv) .core .queued,
     )
 
 same-length : tie.Need-same-length
