@@ -5,6 +5,7 @@ ghost use Prim.Native.Nat.{ℕ, _+_, _*_, _≤_, _<_};
 ghost use lib.ListN.{length, getD, drop, replicate};
 ghost use Rattle.rules.specs.Calls.{storeOf, isSized};
 ghost use Rattle.areas.specs.Lowest.{NoneFree, LowestFree};
+ghost use Rattle.areas.specs.Blocks.{Shows};
 ghost use Rattle.areas.specs.Four.{Four};
 use rules::Store;
 
@@ -90,6 +91,37 @@ pub fn lowest_free(n: usize, states: &[u8], from: usize) -> usize
             return p;
         }
         p += 1;
+    }
+    p
+}
+
+// Whether one of the 64 pieces from `from` on has this state.
+pub fn shows(states: &[u8], state: u8, from: usize) -> bool
+    requires { ⌜ from + 64 ≤ length (now states) ⌝ }
+    ensures { λ r. ⌜ Shows (now (states .entry)) state from 64 r ⌝ }
+{
+    let mut some = false;
+    let mut i: usize = 0;
+    while i < 64 {
+        if states[from + i] == state {
+            some = true;
+        }
+        i += 1;
+    }
+    some
+}
+
+// A number below which nothing is free, found block by block.
+pub fn none_free(n: usize, states: &[u8]) -> usize
+    requires { ⌜ length (now states) ≡ n ⌝ }
+    ensures { λ r. ⌜ (r ≤ n) × NoneFree (now (states .entry)) r ⌝ }
+{
+    let mut p: usize = 0;
+    while 64 <= n - p {
+        if shows(states, 0, p) {
+            return p;
+        }
+        p += 64;
     }
     p
 }

@@ -1,28 +1,17 @@
 -- The pass of a freeze under way: what its steps require and ensure, and how they follow each other.
 use mathlib.Core.Path.{_≡_, refl, _∙_, subst}
-use mathlib.Core.Logic.{⊎-elim}
-use mathlib.Core.Bool.{Bool, true, false}
+use mathlib.Core.Bool.{Bool, false}
 use mathlib.Core.List.{List}
 use Prim.Native.Nat.{ℕ, zero, suc, _+_, _*_, _/_, _≤_, _<_}
 use native.Mathlib.Omega.{arith}
 use lib.ListN.{length, set, length-set}
-use Rattle.tallies.specs.Sums.{lt-or}
+use Rattle.areas.specs.Blocks.{Shows, shows-none}
 use Rattle.tallies.specs.Adding.{Labelled}
 use Rattle.tallies.specs.Places.{LinksAdded, links-hit, skip-past, skip-none, skip-same}
 use Rattle.paths.specs.Ground.{_!_}
 use Rattle.paths.specs.Search.{finished}
 use Rattle.freezing.specs.Turned.{turned-past, turned-on}
 use Rattle.freezing.specs.Fresh.{fresh, fresh-n, Taking, Taken, taken-none, taken-other}
-
--- r is false only if none of the k pieces from a is a draft
-abbrev pub Drafts : List ℕ → ℕ → ℕ → Bool → Type 0
-Drafts states a k r = (i : ℕ) → i < k → states ! (a + i) ≡ 1 → r ≡ true
-
-pub drafts-on : (states : List ℕ) (a k : ℕ) (r : Bool) → r ≡ true → Drafts states a k r
-drafts-on states a k r e i l x = e
-
-pub drafts-off : (states : List ℕ) (a k : ℕ) (r r′ : Bool) → Drafts states a k r → r′ ≡ r → (states ! (a + k) ≡ 1 → ⊥) → Drafts states a (k + 1) r′
-drafts-off states a k r r′ d e f i l x = ⊎-elim (λ u. e ∙ d i u x) (λ u. absurd (f (subst (λ (j : ℕ). states ! (a + j) ≡ 1) (omega arith) x))) (lt-or i k)
 
 -- the pass has come to k
 pub record Under (n : ℕ) (states links leaders counts work : List ℕ) (k : ℕ) : Type 0 where
@@ -118,8 +107,8 @@ passed-others n states links leaders counts work k (suc d) h f =
     (passed-on n states links leaders counts work k states leaders counts (k + d) (passed-others n states links leaders counts work k d (omega arith) (λ i l. f i (omega arith)))
     states leaders counts (k + d + 1) (passed-other n states links leaders counts work (k + d) (omega arith) (f d (omega arith))))
 
-pub passed-clear : (n : ℕ) (states links leaders counts work : List ℕ) (k d : ℕ) (r : Bool) → k + d ≤ n → Drafts states k d r → r ≡ false → Passed n states links leaders counts work k states leaders counts (k + d)
-passed-clear n states links leaders counts work k d r h f e = passed-others n states links leaders counts work k d h (λ i l x. let y = f i l x in let z : _≡_ {A = ℕ} 0 1 = cc in omega arith)
+pub passed-clear : (n : ℕ) (states links leaders counts work : List ℕ) (k d : ℕ) (r : Bool) → k + d ≤ n → Shows states 1 k d r → r ≡ false → Passed n states links leaders counts work k states leaders counts (k + d)
+passed-clear n states links leaders counts work k d r h f e = passed-others n states links leaders counts work k d h (shows-none states 1 k d r f e)
 
 -- the next piece is a draft: its places are added, and it is frozen if it is finished
 module _ (n : ℕ) (states links leaders counts work : List ℕ) (k : ℕ) (counts′ : List ℕ) (x : Added n links counts work (4 * k) counts′ (4 * k + 4)) (h : k < n) where

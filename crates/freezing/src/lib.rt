@@ -9,26 +9,10 @@ ghost use Rattle.rules.specs.declared.Command.the-variants.{Freeze};
 ghost use Rattle.paths.specs.Ground.{_!_};
 ghost use Rattle.freezing.specs.Turned.{Draft};
 ghost use Rattle.freezing.specs.Fresh.{fresh, Taking, Taken};
-ghost use Rattle.freezing.specs.Passing.{Drafts, Under, Passed, Adding, Added};
+ghost use Rattle.freezing.specs.Passing.{Under, Passed, Adding, Added};
 use rules::Answer;
 use rules::Refusal;
 use rules::Store;
-
-// Whether one of the 64 pieces from `from` on is a draft.
-fn drafts(states: &[u8], from: usize) -> bool
-    requires { ⌜ from + 64 ≤ length (now states) ⌝ }
-    ensures { λ r. ⌜ Drafts (now (states .entry)) from 64 r ⌝ }
-{
-    let mut some = false;
-    let mut i: usize = 0;
-    while i < 64 {
-        if states[from + i] == 1 {
-            some = true;
-        }
-        i += 1;
-    }
-    some
-}
 
 // The leader of q, if the search finished it, else none.
 fn leader_of(n: usize, work: &[u32], q: usize) -> usize
@@ -123,7 +107,7 @@ fn take_all(
     while 64 <= n - q {
         let k = q;
         q += 64;
-        if drafts(states, k) {
+        if areas::shows(states, 1, k) {
             take_part(n, states, links, leaders, counts, work, k, q);
         }
     }

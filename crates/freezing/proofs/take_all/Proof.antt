@@ -22,8 +22,8 @@ sub-loop c = c .loop .inv .0
 add-q : tie.Need-add-q Inv-loop μ-loop
 add-q c = omega (arith, c .before .loop .inv .0, c .loop-test .taken)
 
-drafts-requires : tie.Need-drafts-requires Inv-loop μ-loop
-drafts-requires c κs = let a = c .before .before .before .before .before .before .before .before .args in let loop = c .before .before .loop in omega (arith, loop .inv .0, c .before .loop-test .taken, under-sizes (a .n) (loop .states) (a .links .now) (loop .leaders) (loop .counts) (a .work .now) (loop .q) (under-on (a .n) (a .states .now) (a .links .now) (a .leaders .now) (a .counts .now) (a .work .now) 0 (loop .states) (loop .leaders) (loop .counts) (loop .q) (loop .inv .1) (under-start (a .n) (a .states .now) (a .links .now) (a .leaders .now) (a .counts .now) (a .work .now) (c .before .before .before .before .before .before .before .before .pre)) (loop .inv .0)) .0)
+shows-requires : tie.Need-shows-requires Inv-loop μ-loop
+shows-requires c κs = let a = c .before .before .before .before .before .before .before .before .args in let loop = c .before .before .loop in omega (arith, loop .inv .0, c .before .loop-test .taken, under-sizes (a .n) (loop .states) (a .links .now) (loop .leaders) (loop .counts) (a .work .now) (loop .q) (under-on (a .n) (a .states .now) (a .links .now) (a .leaders .now) (a .counts .now) (a .work .now) 0 (loop .states) (loop .leaders) (loop .counts) (loop .q) (loop .inv .1) (under-start (a .n) (a .states .now) (a .links .now) (a .leaders .now) (a .counts .now) (a .work .now) (c .before .before .before .before .before .before .before .before .pre)) (loop .inv .0)) .0)
 
 take-part-requires : tie.Need-take-part-requires Inv-loop μ-loop
 take-part-requires c κs = let a = c .before .before .before .before .before .before .before .before .before .before .before .before .before .args in let loop = c .before .before .before .before .before .before .before .loop in (under-on (a .n) (a .states .now) (a .links .now) (a .leaders .now) (a .counts .now) (a .work .now) 0 (loop .states) (loop .leaders) (loop .counts) (loop .q) (loop .inv .1) (under-start (a .n) (a .states .now) (a .links .now) (a .leaders .now) (a .counts .now) (a .work .now) (c .before .before .before .before .before .before .before .before .before .before .before .before .before .pre)) (loop .inv .0), omega arith, omega (arith, c .before .before .before .before .before .before .before .loop .inv .0, c .before .before .before .before .before .before .loop-test .taken))
@@ -38,7 +38,7 @@ loop-less-2 : tie.Need-loop-less-2 Inv-loop μ-loop
 loop-less-2 c = omega (arith, c .before .before .before .before .loop .inv .0, c .before .before .before .loop-test .taken)
 
 loop-again-2 : tie.Need-loop-again-2 Inv-loop μ-loop
-loop-again-2 c = let a = c .before .before .before .before .before .before .before .before .before .before .args in let loop = c .before .before .before .before .loop in (omega (arith, c .before .before .before .before .loop .inv .0, c .before .before .before .loop-test .taken), passed-on (a .n) (a .states .now) (a .links .now) (a .leaders .now) (a .counts .now) (a .work .now) 0 (loop .states) (loop .leaders) (loop .counts) (loop .q) (loop .inv .1) (loop .states) (loop .leaders) (loop .counts) (loop .q + 64) (passed-clear (a .n) (loop .states) (a .links .now) (loop .leaders) (loop .counts) (a .work .now) (loop .q) 64 (c .before .drafts .result) (omega (arith, c .before .before .before .before .loop .inv .0, c .before .before .before .loop-test .taken)) (c .before .drafts .ensures) (c .if1 .left)))
+loop-again-2 c = let a = c .before .before .before .before .before .before .before .before .before .before .args in let loop = c .before .before .before .before .loop in (omega (arith, c .before .before .before .before .loop .inv .0, c .before .before .before .loop-test .taken), passed-on (a .n) (a .states .now) (a .links .now) (a .leaders .now) (a .counts .now) (a .work .now) 0 (loop .states) (loop .leaders) (loop .counts) (loop .q) (loop .inv .1) (loop .states) (loop .leaders) (loop .counts) (loop .q + 64) (passed-clear (a .n) (loop .states) (a .links .now) (loop .leaders) (loop .counts) (a .work .now) (loop .q) 64 (c .before .shows .result) (omega (arith, c .before .before .before .before .loop .inv .0, c .before .before .before .loop-test .taken)) (c .before .shows .ensures) (c .if1 .left)))
 
 take-part-requires-2 : tie.Need-take-part-requires-2 Inv-loop μ-loop
 take-part-requires-2 c κs = let a = c .before .before .before .before .before .before .before .before .before .before .args in let loop = c .before .before .before .before .loop in (under-on (a .n) (a .states .now) (a .links .now) (a .leaders .now) (a .counts .now) (a .work .now) 0 (loop .states) (loop .leaders) (loop .counts) (loop .q) (loop .inv .1) (under-start (a .n) (a .states .now) (a .links .now) (a .leaders .now) (a .counts .now) (a .work .now) (c .before .before .before .before .before .before .before .before .before .before .pre)) (loop .inv .0), loop .inv .0, omega arith)
@@ -64,7 +64,7 @@ take-all-spec =
     loop-holds
     sub-loop
     add-q
-    drafts-requires
+    shows-requires
     take-part-requires
     loop-less
     loop-again

@@ -1,0 +1,52 @@
+-- `areas::none_free` passes whole blocks without a free number: nothing below the loop's p is free. Assumes nothing.
+use Prim.Native.Nat.{_-_, _≤_}
+use native.Mathlib.Omega.{arith}
+use Rattle.areas.specs.Lowest.{NoneFree}
+use Rattle.areas.specs.Blocks.{block-past}
+use Rattle.areas.proofs.none_free.Statement.{statement}
+use Rattle.areas.proofs.none_free.Tie as tie
+
+abbrev Inv-loop : tie.InvT-loop
+Inv-loop n states p₀ p = (p ≤ n) × NoneFree states p
+
+abbrev μ-loop : tie.MeasureT-loop
+μ-loop n states p₀ p = n - p
+
+loop-holds : tie.Need-loop-holds Inv-loop μ-loop
+loop-holds c = (omega arith, λ q l. absurd (omega arith))
+
+sub-loop : tie.Need-sub-loop Inv-loop μ-loop
+sub-loop c = c .loop .inv .0
+
+shows-requires : tie.Need-shows-requires Inv-loop μ-loop
+shows-requires c κs = omega (arith, c .before .before .before .pre, c .before .loop .inv .0, c .loop-test .taken)
+
+returns : tie.Need-returns Inv-loop μ-loop
+returns c = c .before .before .before .loop .inv
+
+add-p : tie.Need-add-p Inv-loop μ-loop
+add-p c = omega (arith, c .before .before .before .before .before .fits .n, c .before .before .before .loop .inv .0, c .before .before .loop-test .taken)
+
+loop-less : tie.Need-loop-less Inv-loop μ-loop
+loop-less c = omega (arith, c .before .before .before .loop .inv .0, c .before .before .loop-test .taken)
+
+loop-again : tie.Need-loop-again Inv-loop μ-loop
+loop-again c = (omega (arith, c .before .before .before .loop .inv .0, c .before .before .loop-test .taken), block-past (c .before .before .before .before .before .args .states .now) (c .before .before .before .loop .p) 64 (c .before .shows .result) (c .before .before .before .loop .inv .1) (c .before .shows .ensures) (c .if1 .left))
+
+returns-2 : tie.Need-returns-2 Inv-loop μ-loop
+returns-2 c = c .before .loop .inv
+
+pub none-free-spec : {M : Type 1} → statement M
+none-free-spec =
+    tie.close
+    (tie.spec
+    Inv-loop
+    μ-loop
+    loop-holds
+    sub-loop
+    shows-requires
+    returns
+    add-p
+    loop-less
+    loop-again
+    returns-2)
