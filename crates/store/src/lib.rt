@@ -51,7 +51,10 @@ pub fn new(
     match entering::enter(n, states, links, leaders, holds, counts, list.len(), work) {
         Entry::Short => Answer::Refused(Refusal::Size),
         Entry::Flawed => Answer::Refused(Refusal::Unsound),
-        Entry::Sound => giving::new(n, states, links, leaders, holds, counts, 0),
+        Entry::Sound => {
+            let from = areas::none_free(n, states);
+            giving::new(n, states, links, leaders, holds, counts, from)
+        }
     }
 }
 
