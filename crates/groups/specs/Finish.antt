@@ -14,6 +14,7 @@ use Rattle.paths.specs.Moves.Pop.{popped, pop, Closing, Lowest}
 use Rattle.groups.specs.Layout.{part, tail, regions, moved, part-get, part-length, put-next, tail-keeps}
 use Rattle.groups.specs.Stores.{height-pos, moved-same}
 use Rattle.groups.specs.Steps.{view, Stands, Going, Stepped, ClosedOff, Pieces, Resumed}
+use Rattle.groups.specs.Loops.{low-first, close-none, close-more}
 use Rattle.groups.specs.Explore.{stand-lt, size-n, blocks-some, blocks-n, place-is}
 use Rattle.groups.specs.declared.At.{At}
 
@@ -60,6 +61,22 @@ module _ {n : ℕ} {ss ls : List ℕ} {k : ℕ} {w : List ℕ} {a : At} (G : Goi
   full : (old : List ℕ) (root : ℕ) → Stands n ss ls k old root w a → part n n w₁ ! (part n (3 * n) w₁ ! a .stand) ≡ 4
   full old root S =
       ap (λ (s : Regions). s .next ! (s .stack ! a .stand)) same ∙ ap (λ (x : ℕ). view n w a .next ! x) (S .piece-is (G .live)) ∙ place-is G ∙ four
+
+  -- a block of one piece is led by it
+  stack-at : part n (3 * n) w₁ ! a .stand ≡ a .piece
+  stack-at = ap (λ (s : Regions). s .stack ! a .stand) same ∙ G .stands .piece-is (G .live)
+
+  pub one-low : a .stand + 1 ≡ a .size → Lowest (part n (3 * n) w₁) (a .stand) (a .size) (a .piece)
+  one-low e =
+      subst (λ (m : ℕ). Lowest (part n (3 * n) w₁) (a .stand) m (a .piece)) e
+      (subst (λ (x : ℕ). Lowest (part n (3 * n) w₁) (a .stand) (a .stand + 1) x) stack-at (low-first (part n (3 * n) w₁) (a .stand)))
+
+  pub one-closed : a .stand + 1 ≡ a .size → {w₂ : List ℕ} → w₂ ≡ set (set w₁ (a .piece) 65535) (2 * n + a .piece) (a .piece) → ClosedOff n w₁ (a .stand) (a .size) (a .piece) w₂
+  one-closed e w₂-is =
+      let x-is : a .piece ≡ w₁ ! (3 * n + a .stand) = sym stack-at ∙ part-get n (3 * n) w₁ (a .stand) (omega (arith, st-size, size-le)) in
+      subst (λ (u : List ℕ). ClosedOff n w₁ (a .stand) (a .size) (a .piece) u) (sym w₂-is)
+      (subst (λ (m : ℕ). ClosedOff n w₁ (a .stand) m (a .piece) (set (set w₁ (a .piece) 65535) (2 * n + a .piece) (a .piece))) e
+      (close-more n w₁ (a .stand) (a .size) (a .piece) pieces (a .stand) (omega arith) st-size w₁ refl (close-none n w₁ (a .stand) (a .piece)) (a .piece) x-is))
 
   last-get : part n (4 * n) w₁ ! pred (a .blocks) ≡ w₁ ! (4 * n + (a .blocks - 1))
   last-get = part-get n (4 * n) w₁ (pred (a .blocks)) (omega (arith, some, blocks-le)) ∙ ap (λ (i : ℕ). w₁ ! (4 * n + i)) (sym (sub-one (a .blocks)))

@@ -3,6 +3,7 @@ pub mod Steps
 pub mod Loops
 pub mod Stores
 pub mod Explore
+pub mod Advance
 pub mod Finish
 pub mod Whole
 pub mod Marked

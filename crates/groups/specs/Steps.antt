@@ -1,6 +1,7 @@
 -- What the functions of the search require and ensure, over the lists of the tables.
 use mathlib.Core.Path.{_≡_}
 use mathlib.Core.List.{List}
+use mathlib.Core.Logic.{_⊎_}
 use Prim.Native.Nat.{ℕ, pred, _+_, _*_, _≤_, _<_}
 use lib.ListN.{length, set}
 use Rattle.paths.specs.Ground.{ground, Closed, _!_}
@@ -39,6 +40,19 @@ pub record Stepped (n : ℕ) (states links : List ℕ) (class : ℕ) (w : List �
   pub stands : (old : List ℕ) (root : ℕ) → Stands n states links class old root w a → Stands n states links class old root w′ a′
   pub less : measure n (view n w′ a′) (a′ .size) (a′ .stand) < measure n (view n w a) (a .size) (a .stand)
   pub tail-same : tail n w′ ≡ tail n w
+
+-- some places are explored, or none
+pub record Came (n : ℕ) (states links : List ℕ) (class : ℕ) (w : List ℕ) (a : At) (w′ : List ℕ) (a′ : At) : Type 0 where
+  pub len : length w′ ≡ length w
+  pub stands : (old : List ℕ) (root : ℕ) → Stands n states links class old root w a → Stands n states links class old root w′ a′
+  pub most : measure n (view n w′ a′) (a′ .size) (a′ .stand) ≤ measure n (view n w a) (a .size) (a .stand)
+  pub tail-same : tail n w′ ≡ tail n w
+
+-- a piece is pushed, or every place of the search's piece is explored
+pub record Advanced (n : ℕ) (states links : List ℕ) (class : ℕ) (w : List ℕ) (a : At) (w′ : List ℕ) (a′ : At) : Type 0 where
+  pub came : Came n states links class w a w′ a′
+  pub done : (a′ .place ≡ 4) ⊎ (measure n (view n w′ a′) (a′ .size) (a′ .stand) < measure n (view n w a) (a .size) (a .stand))
+  pub live : 0 < a′ .size
 
 -- a piece is put on the stack
 abbrev pub pushed : ℕ → List ℕ → ℕ → ℕ → ℕ → ℕ → List ℕ

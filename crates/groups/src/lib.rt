@@ -7,7 +7,7 @@ ghost use lib.ListN.{length, set};
 ghost use Rattle.paths.specs.Ground.{_!_, Closed, ground};
 ghost use Rattle.paths.specs.Moves.Pop.{Lowest};
 ghost use Rattle.groups.specs.Layout.{part};
-ghost use Rattle.groups.specs.Steps.{pushed, Going, Stepped, Cut, Blocks, ClosedOff, Pieces, Resumed, Started, Searched};
+ghost use Rattle.groups.specs.Steps.{pushed, Going, Stepped, Advanced, Cut, Blocks, ClosedOff, Pieces, Resumed, Started, Searched};
 ghost use Rattle.groups.specs.Marked.{Ready, Marked, Reached, Of};
 
 // Where the search stands.
@@ -58,63 +58,45 @@ fn merge(n: usize, work: &[u32], blocks: usize, position: usize) -> usize
     left
 }
 
-// Explores the next place of the piece at which the search stands.
+// Explores the places of the piece at which the search stands, until one is pushed or none is left.
 fn explore(n: usize, states: &[u8], links: &[u16], class: u8, work: &mut [u32], a: At) -> At
-    requires { ⌜ Going n (now states) (now links) class (now work) a × (a .place < 4) ⌝ }
-    ensures { λ r. ⌜ Stepped n (now (states .entry)) (now (links .entry)) class (now (work .entry)) a (now (work .exit)) r ⌝ }
+    requires { ⌜ Going n (now states) (now links) class (now work) a ⌝ }
+    ensures { λ r. ⌜ Advanced n (now (states .entry)) (now (links .entry)) class (now (work .entry)) a (now (work .exit)) r ⌝ }
 {
     let size = a.size;
-    let blocks = a.blocks;
     let stand = a.stand;
     let piece = a.piece;
-    let place = a.place;
-    let target = links[4 * piece + place] as usize;
-    if n <= target {
-        return At {
-            size: size,
-            blocks: blocks,
-            stand: stand,
-            piece: piece,
-            place: place + 1,
-        };
+    let mut blocks = a.blocks;
+    let mut place = a.place;
+    while place < 4 {
+        let target = links[4 * piece + place] as usize;
+        place += 1;
+        if target < n {
+            if states[target] == class {
+                let mark = get(work, target);
+                if mark == 0 {
+                    put(work, n + piece, place);
+                    push(n, work, size, blocks, stand, target);
+                    return At {
+                        size: size + 1,
+                        blocks: blocks + 1,
+                        stand: size,
+                        piece: target,
+                        place: 0,
+                    };
+                }
+                if mark != 65535 {
+                    blocks = merge(n, work, blocks, mark - 1);
+                }
+            }
+        }
     }
-    if states[target] != class {
-        return At {
-            size: size,
-            blocks: blocks,
-            stand: stand,
-            piece: piece,
-            place: place + 1,
-        };
-    }
-    let mark = get(work, target);
-    if mark == 0 {
-        put(work, n + piece, place + 1);
-        push(n, work, size, blocks, stand, target);
-        return At {
-            size: size + 1,
-            blocks: blocks + 1,
-            stand: size,
-            piece: target,
-            place: 0,
-        };
-    }
-    if mark == 65535 {
-        return At {
-            size: size,
-            blocks: blocks,
-            stand: stand,
-            piece: piece,
-            place: place + 1,
-        };
-    }
-    let left = merge(n, work, blocks, mark - 1);
     At {
         size: size,
-        blocks: left,
+        blocks: blocks,
         stand: stand,
         piece: piece,
-        place: place + 1,
+        place: place,
     }
 }
 
@@ -178,6 +160,11 @@ fn finish(n: usize, states: &[u8], links: &[u16], class: u8, work: &mut [u32], a
     let start = get(work, 4 * n + (blocks - 1));
     let parent = get(work, 5 * n + stand);
     if start == stand {
+        if stand + 1 == size {
+            put(work, piece, 65535);
+            put(work, 2 * n + piece, piece);
+            return resume(n, work, stand, blocks - 1, parent);
+        }
         let low = lowest(n, work, stand, size);
         close(n, work, stand, size, low);
         return resume(n, work, stand, blocks - 1, parent);
@@ -185,15 +172,17 @@ fn finish(n: usize, states: &[u8], links: &[u16], class: u8, work: &mut [u32], a
     resume(n, work, size, blocks, parent)
 }
 
+// Explores places until a piece is pushed, or the piece at which the search stands is explored, and goes back from it.
 fn step(n: usize, states: &[u8], links: &[u16], class: u8, work: &mut [u32], a: At) -> At
     requires { ⌜ Going n (now states) (now links) class (now work) a × Closed (ground n (now states) (now links) class) ⌝ }
     ensures { λ r. ⌜ Stepped n (now (states .entry)) (now (links .entry)) class (now (work .entry)) a (now (work .exit)) r ⌝ }
 {
-    let place = a.place;
-    if place < 4 {
-        return explore(n, states, links, class, work, a);
+    let b = explore(n, states, links, class, work, a);
+    let place = b.place;
+    if place == 4 {
+        return finish(n, states, links, class, work, b);
     }
-    finish(n, states, links, class, work, a)
+    b
 }
 
 // Searches from root, unless it is finished already: every piece of the class that root reaches is then finished, with its leader.
@@ -234,7 +223,9 @@ pub fn visit_all(n: usize, states: &[u8], links: &[u16], class: u8, work: &mut [
         let root = next;
         next += 1;
         if states[root] == class {
-            search(n, states, links, class, work, root);
+            if get(work, root) == 0 {
+                search(n, states, links, class, work, root);
+            }
         }
     }
 }

@@ -1,134 +1,155 @@
--- `groups::explore` meets its contract: each of its five returns is one move of the search. Assumes nothing.
-use mathlib.Core.Path.{refl}
-use Prim.Native.Nat.{ℕ, _+_, _-_, _*_}
-use lib.ListN.{set}
-use mathlib.Core.Path.{_≡_, sym, _∙_, ap, subst}
+-- `groups::explore` meets its contract: each way through the loop is one move of the search. Assumes nothing.
+use mathlib.Core.Path.{_≡_, refl, sym, _∙_, ap, subst}
 use mathlib.Core.List.{List}
+use Prim.Native.Nat.{ℕ, _+_, _-_, _*_}
 use native.Mathlib.Omega.{arith}
+use lib.ListN.{set}
 use Rattle.paths.specs.Ground.{_!_}
-use Rattle.groups.specs.Steps.{Stepped, Cut, pushed}
-use Rattle.groups.specs.Explore.{entered, room, size-n, push-ok, blocks-ok, step-none, step-class, step-finished, step-push, step-merge}
+use Rattle.groups.specs.Steps.{Stepped, Came, Cut, pushed}
+use Rattle.groups.specs.Explore.{place-le, room, push-ok, blocks-ok, step-none, step-class, step-finished, step-push, step-merge}
+use Rattle.groups.specs.Advance.{at, came-none, came-going, came-more, came-all, came-push}
 use Rattle.groups.proofs.explore.Statement.{statement}
 use Rattle.groups.proofs.explore.Tie as tie
+use Rattle.groups.proofs.get.Reads as get-reads
+use Rattle.groups.proofs.merge.Reads as merge-reads
+use Rattle.groups.proofs.push.Reads as push-reads
+use Rattle.groups.proofs.put.Reads as put-reads
 
-mul-target : tie.Need-mul-target
-mul-target c = omega (arith, c .before .before .before .pre .0 .stands .piece-lt, c .before .before .before .pre .0 .lent .most)
+abbrev Inv-loop : tie.InvT-loop
+Inv-loop n states links class work₀ size stand piece blocks₀ place₀ work blocks place = Came n states links class work₀ (at size stand piece blocks₀ place₀) work (at size stand piece blocks place)
 
-add-target : tie.Need-add-target
-add-target c = omega (arith, c .before .before .before .pre .0 .stands .piece-lt, c .before .before .before .pre .0 .lent .most, c .before .before .before .pre .1)
+abbrev μ-loop : tie.MeasureT-loop
+μ-loop n states links class work₀ size stand piece blocks₀ place₀ work blocks place = 4 - place
 
-mul-target-2 : tie.Need-mul-target-2
-mul-target-2 c = omega (arith, c .before .before .before .pre .0 .stands .piece-lt, c .before .before .before .pre .0 .lent .most, c .before .before .before .pre .1)
+loop-holds : tie.Need-loop-holds Inv-loop μ-loop
+loop-holds c = came-none
 
-shared-slice-read-target : tie.Need-shared-slice-read-target
-shared-slice-read-target c = omega (arith, c .before .before .before .before .pre .0 .stands .piece-lt, c .before .before .before .before .pre .0 .lent .links-n, c .before .before .before .before .pre .1)
+mul-target : tie.Need-mul-target Inv-loop μ-loop
+mul-target c = omega (arith, c .before .before .before .before .before .pre .stands .piece-lt, c .before .before .before .before .before .pre .lent .most, c .loop-test .taken)
 
-cast-target : tie.Need-cast-target
-cast-target c = omega (arith, c .shared-slice-known3 .given (4 * c .before .before .before .before .args .a .piece + c .before .before .before .before .args .a .place))
+add-target : tie.Need-add-target Inv-loop μ-loop
+add-target c = omega (arith, c .before .before .before .before .before .pre .stands .piece-lt, c .before .before .before .before .before .pre .lent .most, c .loop-test .taken)
 
-add-t21 : tie.Need-add-t21
-add-t21 c = omega (arith, c .before .before .before .before .before .pre .1)
+mul-target-2 : tie.Need-mul-target-2 Inv-loop μ-loop
+mul-target-2 c = omega (arith, c .before .before .before .before .before .pre .stands .piece-lt, c .before .before .before .before .before .pre .lent .most, c .loop-test .taken)
 
-returns : tie.Need-returns
-returns c = step-none (c .before .before .before .before .before .pre .0) (c .before .before .before .before .before .pre .1) (c .if1 .taken)
+shared-slice-read-target : tie.Need-shared-slice-read-target Inv-loop μ-loop
+shared-slice-read-target c = omega (arith, c .before .before .before .before .before .before .pre .stands .piece-lt, c .before .before .before .before .before .before .pre .lent .most, c .before .loop-test .taken, c .before .before .before .before .before .before .pre .lent .links-n)
 
-shared-slice-read-if2 : tie.Need-shared-slice-read-if2
-shared-slice-read-if2 c = omega (arith, c .before .if1 .left, c .before .before .before .before .before .before .pre .0 .lent .states-n)
+cast-target : tie.Need-cast-target Inv-loop μ-loop
+cast-target c = omega (arith, c .shared-slice-known3 .given (4 * c .before .before .before .before .before .before .args .a .piece + c .before .before .loop .place))
 
-add-t24 : tie.Need-add-t24
-add-t24 c = omega (arith, c .before .before .before .before .before .before .before .pre .1)
+add-place : tie.Need-add-place Inv-loop μ-loop
+add-place c = omega (arith, c .before .loop-test .taken)
 
-returns-2 : tie.Need-returns-2
-returns-2 c = step-class (c .before .before .before .before .before .before .before .pre .0) (c .before .before .before .before .before .before .before .pre .1) (c .if2 .taken)
+shared-slice-read-if2 : tie.Need-shared-slice-read-if2 Inv-loop μ-loop
+shared-slice-read-if2 c = omega (arith, c .before .if1 .taken, c .before .before .before .before .before .before .before .before .pre .lent .states-n)
 
-get-requires : tie.Need-get-requires
-get-requires c κs = omega (arith, c .before .before .before .if1 .left, c .before .before .before .before .before .before .before .before .pre .0 .lent .work-n)
+get-requires : tie.Need-get-requires Inv-loop μ-loop
+get-requires c κs = omega (arith, c .before .before .before .if1 .taken, c .before .before .before .before .before .before .before .before .before .before .pre .lent .work-n, c .before .before .before .before .before .before .loop .inv .len)
 
-add-put : tie.Need-add-put
-add-put c = omega (arith, c .before .before .before .before .before .before .before .before .before .before .before .pre .0 .stands .piece-lt, c .before .before .before .before .before .before .before .before .before .before .before .pre .0 .lent .most)
+add-put : tie.Need-add-put Inv-loop μ-loop
+add-put c = omega (arith, c .before .before .before .before .before .before .before .before .before .before .before .before .before .pre .stands .piece-lt, c .before .before .before .before .before .before .before .before .before .before .before .before .before .pre .lent .most, c .before .before .before .before .before .before .before .before .loop-test .taken)
 
-add-put-2 : tie.Need-add-put-2
-add-put-2 c = omega (arith, c .before .before .before .before .before .before .before .before .before .before .before .pre .1)
+put-requires : tie.Need-put-requires Inv-loop μ-loop
+put-requires c κs = (omega (arith, c .before .before .before .before .before .before .before .before .before .before .before .before .before .pre .stands .piece-lt, c .before .before .before .before .before .before .before .before .before .before .before .before .before .pre .lent .work-n, c .before .before .before .before .before .before .before .before .before .loop .inv .len), omega (arith, c .before .before .before .before .before .before .before .before .loop-test .taken))
 
-put-requires : tie.Need-put-requires
-put-requires c κs = (omega (arith, c .before .before .before .before .before .before .before .before .before .before .before .pre .0 .stands .piece-lt, c .before .before .before .before .before .before .before .before .before .before .before .pre .0 .lent .work-n), omega (arith, c .before .before .before .before .before .before .before .before .before .before .before .pre .1))
+push-requires : tie.Need-push-requires Inv-loop μ-loop
+push-requires c κs = push-ok (came-going (c .before .before .before .before .before .before .before .before .before .before .before .before .before .loop .inv) (c .before .before .before .before .before .before .before .before .before .before .before .before .before .before .before .before .before .pre) (c .before .before .before .before .before .before .before .before .before .before .before .before .before .before .before .before .before .pre .live)) (c .before .before .before .before .before .before .before .before .before .before .before .before .loop-test .taken) (c .before .before .before .before .before .before .before .before .before .before .if1 .taken) (c .before .before .before .before .before .before .before .before .if2 .taken) (sym (c .before .before .before .before .before .before .get .ensures) ∙ c .before .before .before .before .before .if3 .taken) (c .before .before .before .put .last .0) (c .before .before .before .put .kept .0)
 
-push-requires : tie.Need-push-requires
-push-requires c κs = push-ok (c .before .before .before .before .before .before .before .before .before .before .before .before .before .before .before .pre .0) (c .before .before .before .before .before .before .before .before .before .before .before .before .before .before .before .pre .1) (c .before .before .before .before .before .before .before .before .before .before .if1 .left) (c .before .before .before .before .before .before .before .before .if2 .left) (sym (c .before .before .before .before .before .before .get .ensures) ∙ c .before .before .before .before .before .if3 .taken) (c .before .before .before .put .last .0) (c .before .before .before .put .kept .0)
+add-t29 : tie.Need-add-t29 Inv-loop μ-loop
+add-t29 c = omega (arith, room (came-going (c .before .before .before .before .before .before .before .before .before .before .before .before .before .before .before .before .loop .inv) (c .before .before .before .before .before .before .before .before .before .before .before .before .before .before .before .before .before .before .before .before .pre) (c .before .before .before .before .before .before .before .before .before .before .before .before .before .before .before .before .before .before .before .before .pre .live)) (c .before .before .before .before .before .before .before .before .before .before .before .before .before .before .before .loop-test .taken) (c .before .before .before .before .before .before .before .before .before .before .before .before .before .if1 .taken) (c .before .before .before .before .before .before .before .before .before .before .before .if2 .taken) (sym (c .before .before .before .before .before .before .before .before .before .get .ensures) ∙ c .before .before .before .before .before .before .before .before .if3 .taken), c .before .before .before .before .before .before .before .before .before .before .before .before .before .before .before .before .before .before .before .before .pre .lent .most)
 
-add-t31 : tie.Need-add-t31
-add-t31 c = omega (arith, size-n (c .before .before .before .before .before .before .before .before .before .before .before .before .before .before .before .before .before .before .pre .0), c .before .before .before .before .before .before .before .before .before .before .before .before .before .before .before .before .before .before .pre .0 .lent .most)
+add-t32 : tie.Need-add-t32 Inv-loop μ-loop
+add-t32 c = omega (arith, room (came-going (c .before .before .before .before .before .before .before .before .before .before .before .before .before .before .before .before .loop .inv) (c .before .before .before .before .before .before .before .before .before .before .before .before .before .before .before .before .before .before .before .before .pre) (c .before .before .before .before .before .before .before .before .before .before .before .before .before .before .before .before .before .before .before .before .pre .live)) (c .before .before .before .before .before .before .before .before .before .before .before .before .before .before .before .loop-test .taken) (c .before .before .before .before .before .before .before .before .before .before .before .before .before .if1 .taken) (c .before .before .before .before .before .before .before .before .before .before .before .if2 .taken) (sym (c .before .before .before .before .before .before .before .before .before .get .ensures) ∙ c .before .before .before .before .before .before .before .before .if3 .taken), c .before .before .before .before .before .before .before .before .before .before .before .before .before .before .before .before .before .before .before .before .pre .lent .most)
 
-add-t30 : tie.Need-add-t30
-add-t30 c = omega (arith, room (c .before .before .before .before .before .before .before .before .before .before .before .before .before .before .before .before .before .before .pre .0) (c .before .before .before .before .before .before .before .before .before .before .before .before .before .before .before .before .before .before .pre .1) (c .before .before .before .before .before .before .before .before .before .before .before .before .before .if1 .left) (c .before .before .before .before .before .before .before .before .before .before .before .if2 .left) (sym (c .before .before .before .before .before .before .before .before .before .get .ensures) ∙ c .before .before .before .before .before .before .before .before .if3 .taken) .1, c .before .before .before .before .before .before .before .before .before .before .before .before .before .before .before .before .before .before .pre .0 .lent .most)
+same-length : tie.Need-same-length Inv-loop μ-loop
+same-length c = c .before .before .push .kept .1 .0 ∙ c .before .before .before .before .before .before .put .kept .0 ∙ c .before .before .before .before .before .before .before .before .before .before .before .before .before .before .before .before .loop .inv .len
 
-same-length : tie.Need-same-length
-same-length c = c .before .before .push .kept .1 .0 ∙ c .before .before .before .before .before .before .put .kept .0
+returns : tie.Need-returns Inv-loop μ-loop
+returns c =
+    let s = c .before .before .before .before .before .before .before .before .before .before .before .before .before .before .before .before .before .before .before .before .args in
+    let l = c .before .before .before .before .before .before .before .before .before .before .before .before .before .before .before .before .loop in
+    let target : ℕ = s .links .now ! (4 * s .a .piece + l .place) in
+    let e : c .before .before .push .last .1 .0 ≡ pushed (s .n) (set (l .work) (s .n + s .a .piece) (l .place + 1)) (s .a .size) (l .blocks) (s .a .stand) target =
+    c .before .before .push .ensures ∙ ap (λ (u : List ℕ). pushed (s .n) u (s .a .size) (l .blocks) (s .a .stand) target) (c .before .before .before .before .before .before .put .ensures) in
+    came-push (l .inv) (c .before .before .push .kept .1 .0 ∙ c .before .before .before .before .before .before .put .kept .0)
+    (subst (λ (u : List ℕ). Stepped (s .n) (s .states .now) (s .links .now) (s .class) (l .work) (at (s .a .size) (s .a .stand) (s .a .piece) (l .blocks) (l .place)) u (at (s .a .size + 1) (s .a .size) target (l .blocks + 1) 0)) (sym e)
+    (step-push (came-going (c .before .before .before .before .before .before .before .before .before .before .before .before .before .before .before .before .loop .inv) (c .before .before .before .before .before .before .before .before .before .before .before .before .before .before .before .before .before .before .before .before .pre) (c .before .before .before .before .before .before .before .before .before .before .before .before .before .before .before .before .before .before .before .before .pre .live)) (c .before .before .before .before .before .before .before .before .before .before .before .before .before .before .before .loop-test .taken) (c .before .before .before .before .before .before .before .before .before .before .before .before .before .if1 .taken) (c .before .before .before .before .before .before .before .before .before .before .before .if2 .taken) (sym (c .before .before .before .before .before .before .before .before .before .get .ensures) ∙ c .before .before .before .before .before .before .before .before .if3 .taken)))
+    (omega arith)
 
-returns-3 : tie.Need-returns-3
-returns-3 c =
-    let s = c .before .before .before .before .before .before .before .before .before .before .before .before .before .before .before .before .before .before .args in
-    let target : ℕ = s .links .now ! (4 * s .a .piece + s .a .place) in
-    let e : c .before .before .push .last .1 .0 ≡ pushed (s .n) (set (s .work .now) (s .n + s .a .piece) (s .a .place + 1)) (s .a .size) (s .a .blocks) (s .a .stand) target =
-    c .before .before .push .ensures ∙ ap (λ (u : List ℕ). pushed (s .n) u (s .a .size) (s .a .blocks) (s .a .stand) target) (c .before .before .before .before .before .before .put .ensures) in
-    subst (λ (u : List ℕ). Stepped (s .n) (s .states .now) (s .links .now) (s .class) (s .work .now) (s .a) u (entered (s .a) target)) (sym e)
-    (step-push (c .before .before .before .before .before .before .before .before .before .before .before .before .before .before .before .before .before .before .pre .0) (c .before .before .before .before .before .before .before .before .before .before .before .before .before .before .before .before .before .before .pre .1) (c .before .before .before .before .before .before .before .before .before .before .before .before .before .if1 .left) (c .before .before .before .before .before .before .before .before .before .before .before .if2 .left) (sym (c .before .before .before .before .before .before .before .before .before .get .ensures) ∙ c .before .before .before .before .before .before .before .before .if3 .taken))
-
-add-t34 : tie.Need-add-t34
-add-t34 c = omega (arith, c .before .before .before .before .before .before .before .before .before .before .before .pre .1)
-
-same-length-2 : tie.Need-same-length-2
-same-length-2 c = refl
-
-returns-4 : tie.Need-returns-4
-returns-4 c = step-finished (c .before .before .before .before .before .before .before .before .before .before .before .pre .0) (c .before .before .before .before .before .before .before .before .before .before .before .pre .1) (c .before .before .before .before .before .before .if1 .left) (sym (c .before .before .get .ensures) ∙ c .if4 .taken)
-
-sub-merge : tie.Need-sub-merge
+sub-merge : tie.Need-sub-merge Inv-loop μ-loop
 sub-merge c = omega (arith, c .before .before .if3 .left)
 
-merge-requires : tie.Need-merge-requires
-merge-requires c κs = blocks-ok (c .before .before .before .before .before .before .before .before .before .before .before .before .pre .0) (c .before .before .before .before .before .before .before .before .before .before .before .before .pre .1) (c .before .before .before .before .before .before .before .if1 .left) (c .before .before .before .before .before .if2 .left)
+merge-requires : tie.Need-merge-requires Inv-loop μ-loop
+merge-requires c κs = blocks-ok (came-going (c .before .before .before .before .before .before .before .before .before .before .loop .inv) (c .before .before .before .before .before .before .before .before .before .before .before .before .before .before .pre) (c .before .before .before .before .before .before .before .before .before .before .before .before .before .before .pre .live)) (c .before .before .before .before .before .before .before .before .before .loop-test .taken) (c .before .before .before .before .before .before .before .if1 .taken) (c .before .before .before .before .before .if2 .taken)
 
-add-t16 : tie.Need-add-t16
-add-t16 c = omega (arith, c .before .before .before .before .before .before .before .before .before .before .before .before .before .pre .1)
+loop-less : tie.Need-loop-less Inv-loop μ-loop
+loop-less c = omega (arith, c .before .before .before .before .before .before .before .before .before .before .loop-test .taken)
 
-same-length-3 : tie.Need-same-length-3
-same-length-3 c = refl
+loop-again : tie.Need-loop-again Inv-loop μ-loop
+loop-again c =
+    let s = c .before .before .before .before .before .before .before .before .before .before .before .before .before .before .before .args in
+    let l = c .before .before .before .before .before .before .before .before .before .before .before .loop in
+    came-more (l .inv) refl
+    (step-merge (came-going (c .before .before .before .before .before .before .before .before .before .before .before .loop .inv) (c .before .before .before .before .before .before .before .before .before .before .before .before .before .before .before .pre) (c .before .before .before .before .before .before .before .before .before .before .before .before .before .before .before .pre .live)) (c .before .before .before .before .before .before .before .before .before .before .loop-test .taken) (c .before .before .before .before .before .before .before .before .if1 .taken) (c .before .before .before .before .before .before .if2 .taken) (λ e. c .before .before .before .if3 .left (c .before .before .before .before .get .ensures ∙ e)) (λ e. c .before .before .if4 .taken (c .before .before .before .before .get .ensures ∙ e)) (c .merge .result)
+    (subst (λ (m : ℕ). Cut (s .n) (l .work) (l .blocks) (m - 1) (c .merge .result)) (c .before .before .before .before .get .ensures) (c .merge .ensures)))
 
-returns-5 : tie.Need-returns-5
-returns-5 c =
-    let s = c .before .before .before .before .before .before .before .before .before .before .before .before .before .args in
-    step-merge (c .before .before .before .before .before .before .before .before .before .before .before .before .before .pre .0) (c .before .before .before .before .before .before .before .before .before .before .before .before .before .pre .1) (c .before .before .before .before .before .before .before .before .if1 .left) (c .before .before .before .before .before .before .if2 .left) (λ e. c .before .before .before .if3 .left (c .before .before .before .before .get .ensures ∙ e)) (λ e. c .before .before .if4 .left (c .before .before .before .before .get .ensures ∙ e)) (c .merge .result)
-    (subst (λ (m : ℕ). Cut (s .n) (s .work .now) (s .a .blocks) (m - 1) (c .merge .result)) (c .before .before .before .before .get .ensures) (c .merge .ensures))
+loop-less-2 : tie.Need-loop-less-2 Inv-loop μ-loop
+loop-less-2 c = omega (arith, c .before .before .before .before .before .before .before .before .loop-test .taken)
+
+loop-again-2 : tie.Need-loop-again-2 Inv-loop μ-loop
+loop-again-2 c = came-more (c .before .before .before .before .before .before .before .before .before .loop .inv) refl (step-finished (came-going (c .before .before .before .before .before .before .before .before .before .loop .inv) (c .before .before .before .before .before .before .before .before .before .before .before .before .before .pre) (c .before .before .before .before .before .before .before .before .before .before .before .before .before .pre .live)) (c .before .before .before .before .before .before .before .before .loop-test .taken) (c .before .before .before .before .before .before .if1 .taken) (sym (c .before .before .get .ensures) ∙ c .if4 .left))
+
+loop-less-3 : tie.Need-loop-less-3 Inv-loop μ-loop
+loop-less-3 c = omega (arith, c .before .before .before .before .loop-test .taken)
+
+loop-again-3 : tie.Need-loop-again-3 Inv-loop μ-loop
+loop-again-3 c = came-more (c .before .before .before .before .before .loop .inv) refl (step-class (came-going (c .before .before .before .before .before .loop .inv) (c .before .before .before .before .before .before .before .before .before .pre) (c .before .before .before .before .before .before .before .before .before .pre .live)) (c .before .before .before .before .loop-test .taken) (c .if2 .left))
+
+loop-less-4 : tie.Need-loop-less-4 Inv-loop μ-loop
+loop-less-4 c = omega (arith, c .before .before .loop-test .taken)
+
+loop-again-4 : tie.Need-loop-again-4 Inv-loop μ-loop
+loop-again-4 c = came-more (c .before .before .before .loop .inv) refl (step-none (came-going (c .before .before .before .loop .inv) (c .before .before .before .before .before .before .before .pre) (c .before .before .before .before .before .before .before .pre .live)) (c .before .before .loop-test .taken) (c .if1 .left))
+
+same-length-2 : tie.Need-same-length-2 Inv-loop μ-loop
+same-length-2 c = c .before .loop .inv .len
+
+returns-2 : tie.Need-returns-2 Inv-loop μ-loop
+returns-2 c = came-all (c .before .loop .inv) (omega (arith, c .loop-test .left, place-le (came-going (c .before .loop .inv) (c .before .before .before .before .before .pre) (c .before .before .before .before .before .pre .live)))) (c .before .before .before .before .before .pre .live)
 
 pub explore-spec : {M : Type 1} → statement M
 explore-spec =
     tie.close
     (tie.spec
+    Inv-loop
+    μ-loop
+    loop-holds
     mul-target
     add-target
     mul-target-2
     shared-slice-read-target
     cast-target
-    add-t21
-    returns
+    add-place
     shared-slice-read-if2
-    add-t24
-    returns-2
     get-requires
     add-put
-    add-put-2
     put-requires
     push-requires
-    add-t31
-    add-t30
+    add-t29
+    add-t32
     same-length
-    returns-3
-    add-t34
-    same-length-2
-    returns-4
+    returns
     sub-merge
     merge-requires
-    add-t16
-    same-length-3
-    returns-5)
+    loop-less
+    loop-again
+    loop-less-2
+    loop-again-2
+    loop-less-3
+    loop-again-3
+    loop-less-4
+    loop-again-4
+    same-length-2
+    returns-2)

@@ -1,28 +1,31 @@
--- `groups::step` meets its contract: a place below 4 is explored, and 4 is the last. Assumes nothing.
-use native.Mathlib.Omega.{arith}
-use Rattle.groups.specs.Explore.{place-le}
+-- `groups::step` meets its contract: a piece is pushed, or the one at which the search stands is finished. Assumes nothing.
+use mathlib.Core.Path.{_∙_}
+use Rattle.groups.specs.Advance.{came-going, came-then, advanced-step}
+use borrow.Author.Needs.{needs}
 use Rattle.groups.proofs.step.Statement.{statement}
 use Rattle.groups.proofs.step.Tie as tie
+use Rattle.groups.proofs.explore.Reads as explore-reads
+use Rattle.groups.proofs.finish.Reads as finish-reads
 
 explore-requires : tie.Need-explore-requires
-explore-requires c κs = (c .before .before .before .before .before .pre .0, omega (arith, c .before .if1 .taken))
-
-same-length : tie.Need-same-length
-same-length c = c .before .before .explore .kept .1 .1 .1 .1 .0
-
-returns : tie.Need-returns
-returns c = c .before .before .explore .ensures
+explore-requires c κs = c .before .before .before .before .pre .0
 
 finish-requires : tie.Need-finish-requires
-finish-requires c κs = (c .before .before .before .before .before .pre .0, c .before .before .before .before .before .pre .1, omega (arith, place-le (c .before .before .before .before .before .pre .0), c .before .if1 .left))
+finish-requires c κs = (came-going (c .before .before .before .before .explore .ensures .came) (c .before .before .before .before .before .before .before .before .before .pre .0) (c .before .before .before .before .explore .ensures .live), c .before .before .before .before .before .before .before .before .before .pre .1, c .before .if1 .taken)
+
+same-length : tie.Need-same-length
+same-length c = c .before .before .finish .kept .1 .1 .1 .1 .0 ∙ c .before .before .before .before .before .before .before .explore .kept .1 .1 .1 .1 .0
+
+returns : tie.Need-returns
+returns c = came-then (c .before .before .before .before .before .before .before .explore .ensures .came) (c .before .before .finish .ensures)
 
 same-length-2 : tie.Need-same-length-2
-same-length-2 c = c .before .before .finish .kept .1 .1 .1 .1 .0
+same-length-2 c = c .before .before .before .explore .kept .1 .1 .1 .1 .0
 
 returns-2 : tie.Need-returns-2
-returns-2 c = c .before .before .finish .ensures
+returns-2 c = advanced-step (c .before .before .before .explore .ensures) (c .if1 .left)
 
 pub step-spec : {M : Type 1} → statement M
 step-spec =
     tie.close
-    (tie.spec explore-requires same-length returns finish-requires same-length-2 returns-2)
+    (tie.spec explore-requires finish-requires same-length returns same-length-2 returns-2)

@@ -1,9 +1,13 @@
 -- `groups::visit_all` meets its contract: every piece of the class below `next` is finished. Assumes nothing.
 use Prim.Native.Nat.{_-_}
 use native.Mathlib.Omega.{arith}
+use mathlib.Core.Path.{refl, _∙_}
+use Rattle.groups.specs.Whole.{already}
 use Rattle.groups.specs.Roots.{Trying, trying-none, trying-start, trying-more, trying-pass, trying-all}
 use Rattle.groups.proofs.visit_all.Statement.{statement}
 use Rattle.groups.proofs.visit_all.Tie as tie
+use Rattle.groups.proofs.get.Reads as get-reads
+use Rattle.groups.proofs.search.Reads as search-reads
 
 abbrev Inv-loop : tie.InvT-loop
 Inv-loop n states links class work₀ next₀ work next = Trying n states links class work₀ work next
@@ -15,25 +19,34 @@ loop-holds : tie.Need-loop-holds Inv-loop μ-loop
 loop-holds c = trying-none (c .before .before .before .pre)
 
 add-next : tie.Need-add-next Inv-loop μ-loop
-add-next c = omega (arith, c .before .before .before .before .before .pre .lent .most)
+add-next c = omega (arith, c .before .before .before .before .before .pre .lent .most, c .loop-test .taken)
 
 shared-slice-read-if1 : tie.Need-shared-slice-read-if1 Inv-loop μ-loop
 shared-slice-read-if1 c = omega (arith, c .before .loop-test .taken, c .before .before .before .before .before .before .pre .lent .states-n)
 
+get-requires : tie.Need-get-requires Inv-loop μ-loop
+get-requires c κs = omega (arith, c .before .before .before .loop-test .taken, c .before .before .before .before .loop .inv .lent .work-n)
+
 search-requires : tie.Need-search-requires Inv-loop μ-loop
-search-requires c κs = trying-start (c .before .before .before .before .loop .inv) (c .before .before .before .loop-test .taken) (c .before .if1 .taken)
+search-requires c κs = trying-start (c .before .before .before .before .before .before .before .loop .inv) (c .before .before .before .before .before .before .loop-test .taken) (c .before .before .before .before .if1 .taken)
 
 loop-less : tie.Need-loop-less Inv-loop μ-loop
-loop-less c = omega (arith, c .before .before .before .before .before .before .loop-test .taken)
+loop-less c = omega (arith, c .before .before .before .before .before .before .before .before .before .loop-test .taken)
 
 loop-again : tie.Need-loop-again Inv-loop μ-loop
-loop-again c = trying-more (c .before .before .before .before .before .before .before .loop .inv) (c .before .before .before .before .before .before .loop-test .taken) (c .before .before .before .before .if1 .taken) (c .before .before .search .kept .1 .1 .1 .1 .0) (c .before .before .search .ensures)
+loop-again c = trying-more (c .before .before .before .before .before .before .before .before .before .before .loop .inv) (c .before .before .before .before .before .before .before .before .before .loop-test .taken) (c .before .before .before .before .before .before .before .if1 .taken) (c .before .before .search .kept .1 .1 .1 .1 .0) (c .before .before .search .ensures)
 
 loop-less-2 : tie.Need-loop-less-2 Inv-loop μ-loop
-loop-less-2 c = omega (arith, c .before .before .loop-test .taken)
+loop-less-2 c = omega (arith, c .before .before .before .before .before .loop-test .taken)
 
 loop-again-2 : tie.Need-loop-again-2 Inv-loop μ-loop
-loop-again-2 c = trying-pass (c .before .before .before .loop .inv) (c .before .before .loop-test .taken) (c .if1 .left)
+loop-again-2 c = trying-more (c .before .before .before .before .before .before .loop .inv) (c .before .before .before .before .before .loop-test .taken) (c .before .before .before .if1 .taken) refl (already (trying-start (c .before .before .before .before .before .before .loop .inv) (c .before .before .before .before .before .loop-test .taken) (c .before .before .before .if1 .taken)) (λ e. c .if2 .left (c .before .get .ensures ∙ e)))
+
+loop-less-3 : tie.Need-loop-less-3 Inv-loop μ-loop
+loop-less-3 c = omega (arith, c .before .before .loop-test .taken)
+
+loop-again-3 : tie.Need-loop-again-3 Inv-loop μ-loop
+loop-again-3 c = trying-pass (c .before .before .before .loop .inv) (c .before .before .loop-test .taken) (c .if1 .left)
 
 same-length : tie.Need-same-length Inv-loop μ-loop
 same-length c = c .before .loop .inv .len
@@ -50,10 +63,13 @@ visit-all-spec =
     loop-holds
     add-next
     shared-slice-read-if1
+    get-requires
     search-requires
     loop-less
     loop-again
     loop-less-2
     loop-again-2
+    loop-less-3
+    loop-again-3
     same-length
     returns)

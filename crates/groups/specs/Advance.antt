@@ -1,0 +1,49 @@
+-- The places of the search's piece are explored one by one, until one is pushed or none is left.
+use mathlib.Core.Path.{_≡_, refl, _∙_}
+use mathlib.Core.List.{List}
+use mathlib.Core.Logic.{_⊎_, inl, inr, ⊎-elim}
+use Prim.Native.Nat.{ℕ, _≤_, _<_}
+use native.Mathlib.Omega.{arith}
+use lib.ListN.{length}
+use Rattle.paths.specs.Search.{measure}
+use Rattle.groups.specs.Layout.{tail}
+use Rattle.groups.specs.Steps.{view, Stands, Going, Stepped, Came, Advanced}
+use Rattle.groups.specs.declared.At.{At}
+
+-- where the search stands, by its numbers
+abbrev pub at : ℕ → ℕ → ℕ → ℕ → ℕ → At
+at size stand piece blocks place = record { size = size; blocks = blocks; stand = stand; piece = piece; place = place }
+
+pub came-none : {n : ℕ} {ss ls : List ℕ} {k : ℕ} {w : List ℕ} {a : At} → Came n ss ls k w a w a
+came-none = record { len = refl; stands = λ old root S. S; most = omega arith; tail-same = refl }
+
+module _ {n : ℕ} {ss ls : List ℕ} {k : ℕ} {w : List ℕ} {a : At} {w₁ : List ℕ} {b : At} (P : Came n ss ls k w a w₁ b) where
+  pub came-going : Going n ss ls k w a → 0 < b .size → Going n ss ls k w₁ b
+  came-going G live = record {
+    lent = record { most = G .lent .most; states-n = G .lent .states-n; links-n = G .lent .links-n; work-n = omega (arith, P .len, G .lent .work-n) };
+    live = live;
+    old = G .old;
+    root = G .root;
+    stands = P .stands (G .old) (G .root) (G .stands);
+  }
+
+  pub came-then : {w₂ : List ℕ} {d : At} → Stepped n ss ls k w₁ b w₂ d → Stepped n ss ls k w a w₂ d
+  came-then T = record { stands = λ old root S. T .stands old root (P .stands old root S); less = omega (arith, P .most, T .less); tail-same = T .tail-same ∙ P .tail-same }
+
+  pub came-more : {w₂ : List ℕ} {d : At} → length w₂ ≡ length w₁ → Stepped n ss ls k w₁ b w₂ d → Came n ss ls k w a w₂ d
+  came-more len T = record {
+    len = len ∙ P .len;
+    stands = λ old root S. T .stands old root (P .stands old root S);
+    most = omega (arith, P .most, T .less);
+    tail-same = T .tail-same ∙ P .tail-same;
+  }
+
+  pub came-all : b .place ≡ 4 → 0 < b .size → Advanced n ss ls k w a w₁ b
+  came-all e live = record { came = P; done = inl e; live = live }
+
+  pub came-push : {w₂ : List ℕ} {d : At} → length w₂ ≡ length w₁ → Stepped n ss ls k w₁ b w₂ d → 0 < d .size → Advanced n ss ls k w a w₂ d
+  came-push len T live = record { came = came-more len T; done = inr (came-then T .less); live = live }
+
+-- where a place is left, less is left than before
+pub advanced-step : {n : ℕ} {ss ls : List ℕ} {k : ℕ} {w : List ℕ} {a : At} {w₁ : List ℕ} {b : At} → Advanced n ss ls k w a w₁ b → (b .place ≡ 4 → ⊥) → Stepped n ss ls k w a w₁ b
+advanced-step A d = record { stands = A .came .stands; less = ⊎-elim (λ e. absurd (d e)) (λ l. l) (A .done); tail-same = A .came .tail-same }
