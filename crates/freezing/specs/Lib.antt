@@ -4,5 +4,6 @@ pub mod Fresh
 pub mod Passing
 pub mod Counted
 pub mod Frozen
+pub mod Lone
 pub mod Whole
 pub mod Again

@@ -1,6 +1,7 @@
 // The work of freeze on sound tables: groups are found once, at freeze.
 ghost use mathlib.Core.Path.{_≡_};
 ghost use mathlib.Core.List.{[]};
+ghost use mathlib.Core.Bool.{true};
 ghost use Prim.Native.Nat.{ℕ, _+_, _*_, _≤_, _<_};
 ghost use lib.ListN.{length};
 ghost use Rattle.rules.specs.Calls.{storeOf, Ready, Clear, Did, answered, effect};
@@ -9,6 +10,7 @@ ghost use Rattle.rules.specs.declared.Command.the-variants.{Freeze};
 ghost use Rattle.paths.specs.Ground.{_!_};
 ghost use Rattle.freezing.specs.Turned.{Draft};
 ghost use Rattle.freezing.specs.Fresh.{fresh, Taking, Taken};
+ghost use Rattle.freezing.specs.Lone.{Lone, Searching, Found, wiped};
 ghost use Rattle.freezing.specs.Passing.{Under, Passed, Adding, Added};
 use rules::Answer;
 use rules::Refusal;
@@ -114,6 +116,54 @@ fn take_all(
     take_part(n, states, links, leaders, counts, work, q, n);
 }
 
+// Whether draft p names no other draft.
+fn lone(n: usize, states: &[u8], links: &[u16], p: usize) -> bool
+    requires { ⌜ (n ≤ 1024) × (length (now states) ≡ n) × (length (now links) ≡ 4 * n) × (p < n) ⌝ }
+    ensures { λ r. ⌜ (r ≡ true → Lone n (now (states .entry)) (now (links .entry)) p (4 * p + 4)) ⌝ }
+{
+    let end = 4 * p + 4;
+    let mut i = 4 * p;
+    while i < end {
+        let t = links[i] as usize;
+        if t < n {
+            if t != p {
+                if states[t] == 1 {
+                    return false;
+                }
+            }
+        }
+        i += 1;
+    }
+    true
+}
+
+// Finds the groups of the drafts that p reaches, p's alone without a search. Tells which.
+fn find(n: usize, states: &[u8], links: &[u16], work: &mut [u32], p: usize) -> bool
+    requires { ⌜ Searching n (now states) (now links) (now work) p ⌝ }
+    ensures { λ r. ⌜ Found n (now (states .entry)) (now (links .entry)) (now (work .entry)) p (now (work .exit)) r ⌝ }
+{
+    if lone(n, states, links, p) {
+        work[p] = 65535;
+        work[2 * n + p] = p as u32;
+        return true;
+    }
+    groups::visit(n, states, links, 1, work, p);
+    false
+}
+
+// Clears what the finding wrote.
+fn wipe(n: usize, work: &mut [u32], p: usize, alone: bool)
+    requires { ⌜ (n ≤ 1024) × (6 * n ≤ length (now work)) × (p < n) ⌝ }
+    ensures { λ _. ⌜ now (work .exit) ≡ wiped n (now (work .entry)) p alone ⌝ }
+{
+    if alone {
+        work[p] = 0;
+        work[2 * n + p] = 0;
+    } else {
+        areas::fill_u32(work, 6 * n, 0);
+    }
+}
+
 // Draft p and every draft it reaches become frozen; p gets one hold.
 fn freeze_draft(
     n: usize,
@@ -130,12 +180,12 @@ fn freeze_draft(
         ≡ nextStore (storeOf n (now (states .entry)) (now (links .entry)) (now (leaders .entry)) (now (holds .entry)) (now (counts .entry))) (Freeze p) ⌝ }
     ensures clear { λ _. ⌜ now (work .exit) ≡ now (work .entry) ⌝ }
 {
-    groups::visit(n, states, links, 1, work, p);
+    let alone = find(n, states, links, work, p);
     take_all(n, states, links, leaders, counts, work);
     let l = leaders[p] as usize;
     holds[p] = 1;
     counts[l] = counts[l] + 1;
-    areas::fill_u32(work, 6 * n, 0);
+    wipe(n, work, p, alone);
 }
 
 // P and every draft it reaches become frozen; P gets one hold. If P is frozen already it only gets one more hold.

@@ -6,16 +6,16 @@ use lib.ListN.{set, length-set}
 use Rattle.paths.specs.Ground.{_!_}
 use Rattle.freezing.specs.Frozen.{frozen}
 use Rattle.freezing.specs.Counted.{taking, leader-below, leader-room, held}
-use Rattle.freezing.specs.Whole.{search-ready, wiped, wide}
+use Rattle.freezing.specs.Whole.{searching, wide, clear-again}
 use borrow.Author.Needs.{needs}
 use Rattle.freezing.proofs.freeze_draft.Statement.{statement}
 use Rattle.freezing.proofs.freeze_draft.Tie as tie
 
-visit-requires : tie.Need-visit-requires
-visit-requires c κs = let a = c .before .before .before .before .before .before .before .before .args in (search-ready (a .n) (a .states .now) (a .links .now) (a .leaders .now) (a .holds .now) (a .counts .now) (a .work .now) (a .p) (c .before .before .before .before .before .before .before .before .pre), c .before .before .before .before .before .before .before .before .pre .below, c .before .before .before .before .before .before .before .before .pre .is)
+find-requires : tie.Need-find-requires
+find-requires c κs = let a = c .before .before .before .before .before .before .before .before .args in searching (a .n) (a .states .now) (a .links .now) (a .leaders .now) (a .holds .now) (a .counts .now) (a .work .now) (a .p) (c .before .before .before .before .before .before .before .before .pre)
 
 take-all-requires : tie.Need-take-all-requires
-take-all-requires c κs = let a = c .before .before .before .before .before .before .before .before .before .before .before .before .before .before .before .args in taking (a .n) (a .states .now) (a .links .now) (a .leaders .now) (a .holds .now) (a .counts .now) (a .work .now) (a .p) (c .before .before .before .before .before .before .before .before .before .before .before .before .before .before .before .pre) (c .before .before .before .before .before .before .visit .last .1 .1 .1 .1 .0) (c .before .before .before .before .before .before .visit .ensures)
+take-all-requires c κs = let a = c .before .before .before .before .before .before .before .before .before .before .before .before .before .before .before .args in taking (a .n) (a .states .now) (a .links .now) (a .leaders .now) (a .holds .now) (a .counts .now) (a .work .now) (a .p) (c .before .before .before .before .before .before .before .before .before .before .before .before .before .before .before .pre) (c .before .before .before .before .before .before .find .last .1 .1 .1 .0) (c .before .before .before .before .before .before .find .ensures .marked)
 
 mul-l : tie.Need-mul-l
 mul-l c = search needs
@@ -33,25 +33,22 @@ slice-write-holds : tie.Need-slice-write-holds
 slice-write-holds c = search needs
 
 mul-counts : tie.Need-mul-counts
-mul-counts c = let a = c .before .before .before .before .before .before .before .before .before .before .before .before .before .before .before .before .before .before .before .before .before .before .before .args in let taken = c .before .before .before .before .before .before .before .take-all in omega (arith, leader-below (a .n) (a .states .now) (a .links .now) (a .leaders .now) (a .holds .now) (a .counts .now) (a .work .now) (a .p) (c .before .before .before .before .before .before .before .before .before .before .before .before .before .before .before .before .before .before .before .before .before .before .before .pre) (c .before .before .before .before .before .before .before .before .before .before .before .before .before .before .visit .last .1 .1 .1 .1 .0) (c .before .before .before .before .before .before .before .before .before .before .before .before .before .before .visit .ensures) (taken .last .1 .0) (taken .last .1 .1 .1 .0) (taken .ensures .turned) (taken .last .1 .1 .1 .1 .0) (taken .ensures .added), c .before .before .before .before .before .before .before .before .before .before .before .before .before .before .before .before .before .before .before .before .before .before .before .pre .ready .sized .base .most, c .before .before .before .before .before .before .before .before .before .before .before .before .before .before .before .before .before .before .before .before .before .before .before .pre .ready .sized .counts, taken .kept .1 .1 .1 .1 .0, c .before .before .before .before .before .before .before .before .before .before .before .before .before .before .before .before .before .before .before .before .before .before .before .good)
+mul-counts c = let a = c .before .before .before .before .before .before .before .before .before .before .before .before .before .before .before .before .before .before .before .before .before .before .before .args in let taken = c .before .before .before .before .before .before .before .take-all in omega (arith, leader-below (a .n) (a .states .now) (a .links .now) (a .leaders .now) (a .holds .now) (a .counts .now) (a .work .now) (a .p) (c .before .before .before .before .before .before .before .before .before .before .before .before .before .before .before .before .before .before .before .before .before .before .before .pre) (c .before .before .before .before .before .before .before .before .before .before .before .before .before .before .find .last .1 .1 .1 .0) (c .before .before .before .before .before .before .before .before .before .before .before .before .before .before .find .ensures .marked) (taken .last .1 .0) (taken .last .1 .1 .1 .0) (taken .ensures .turned) (taken .last .1 .1 .1 .1 .0) (taken .ensures .added), c .before .before .before .before .before .before .before .before .before .before .before .before .before .before .before .before .before .before .before .before .before .before .before .pre .ready .sized .base .most, c .before .before .before .before .before .before .before .before .before .before .before .before .before .before .before .before .before .before .before .before .before .before .before .pre .ready .sized .counts, taken .kept .1 .1 .1 .1 .0, c .before .before .before .before .before .before .before .before .before .before .before .before .before .before .before .before .before .before .before .before .before .before .before .good)
 
 slice-read-counts : tie.Need-slice-read-counts
-slice-read-counts c = let a = c .before .before .before .before .before .before .before .before .before .before .before .before .before .before .before .before .before .before .before .before .before .before .before .before .args in let taken = c .before .before .before .before .before .before .before .before .take-all in omega (arith, leader-below (a .n) (a .states .now) (a .links .now) (a .leaders .now) (a .holds .now) (a .counts .now) (a .work .now) (a .p) (c .before .before .before .before .before .before .before .before .before .before .before .before .before .before .before .before .before .before .before .before .before .before .before .before .pre) (c .before .before .before .before .before .before .before .before .before .before .before .before .before .before .before .visit .last .1 .1 .1 .1 .0) (c .before .before .before .before .before .before .before .before .before .before .before .before .before .before .before .visit .ensures) (taken .last .1 .0) (taken .last .1 .1 .1 .0) (taken .ensures .turned) (taken .last .1 .1 .1 .1 .0) (taken .ensures .added), c .before .before .before .before .before .before .before .before .before .before .before .before .before .before .before .before .before .before .before .before .before .before .before .before .pre .ready .sized .base .most, c .before .before .before .before .before .before .before .before .before .before .before .before .before .before .before .before .before .before .before .before .before .before .before .before .pre .ready .sized .counts, taken .kept .1 .1 .1 .1 .0)
+slice-read-counts c = let a = c .before .before .before .before .before .before .before .before .before .before .before .before .before .before .before .before .before .before .before .before .before .before .before .before .args in let taken = c .before .before .before .before .before .before .before .before .take-all in omega (arith, leader-below (a .n) (a .states .now) (a .links .now) (a .leaders .now) (a .holds .now) (a .counts .now) (a .work .now) (a .p) (c .before .before .before .before .before .before .before .before .before .before .before .before .before .before .before .before .before .before .before .before .before .before .before .before .pre) (c .before .before .before .before .before .before .before .before .before .before .before .before .before .before .before .find .last .1 .1 .1 .0) (c .before .before .before .before .before .before .before .before .before .before .before .before .before .before .before .find .ensures .marked) (taken .last .1 .0) (taken .last .1 .1 .1 .0) (taken .ensures .turned) (taken .last .1 .1 .1 .1 .0) (taken .ensures .added), c .before .before .before .before .before .before .before .before .before .before .before .before .before .before .before .before .before .before .before .before .before .before .before .before .pre .ready .sized .base .most, c .before .before .before .before .before .before .before .before .before .before .before .before .before .before .before .before .before .before .before .before .before .before .before .before .pre .ready .sized .counts, taken .kept .1 .1 .1 .1 .0)
 
 add-counts : tie.Need-add-counts
-add-counts c = let a = c .before .before .before .before .before .before .before .before .before .before .before .before .before .before .before .before .before .before .before .before .before .before .before .before .args in let taken = c .before .before .before .before .before .before .before .before .take-all in omega (arith, leader-room (a .n) (a .states .now) (a .links .now) (a .leaders .now) (a .holds .now) (a .counts .now) (a .work .now) (a .p) (c .before .before .before .before .before .before .before .before .before .before .before .before .before .before .before .before .before .before .before .before .before .before .before .before .pre) (c .before .before .before .before .before .before .before .before .before .before .before .before .before .before .before .visit .last .1 .1 .1 .1 .0) (c .before .before .before .before .before .before .before .before .before .before .before .before .before .before .before .visit .ensures) (taken .last .1 .0) (taken .last .1 .1 .1 .0) (taken .ensures .turned) (taken .last .1 .1 .1 .1 .0) (taken .ensures .added))
+add-counts c = let a = c .before .before .before .before .before .before .before .before .before .before .before .before .before .before .before .before .before .before .before .before .before .before .before .before .args in let taken = c .before .before .before .before .before .before .before .before .take-all in omega (arith, leader-room (a .n) (a .states .now) (a .links .now) (a .leaders .now) (a .holds .now) (a .counts .now) (a .work .now) (a .p) (c .before .before .before .before .before .before .before .before .before .before .before .before .before .before .before .before .before .before .before .before .before .before .before .before .pre) (c .before .before .before .before .before .before .before .before .before .before .before .before .before .before .before .find .last .1 .1 .1 .0) (c .before .before .before .before .before .before .before .before .before .before .before .before .before .before .before .find .ensures .marked) (taken .last .1 .0) (taken .last .1 .1 .1 .0) (taken .ensures .turned) (taken .last .1 .1 .1 .1 .0) (taken .ensures .added))
 
 mul-counts-2 : tie.Need-mul-counts-2
-mul-counts-2 c = let a = c .before .before .before .before .before .before .before .before .before .before .before .before .before .before .before .before .before .before .before .before .before .before .before .before .args in let taken = c .before .before .before .before .before .before .before .before .take-all in omega (arith, leader-below (a .n) (a .states .now) (a .links .now) (a .leaders .now) (a .holds .now) (a .counts .now) (a .work .now) (a .p) (c .before .before .before .before .before .before .before .before .before .before .before .before .before .before .before .before .before .before .before .before .before .before .before .before .pre) (c .before .before .before .before .before .before .before .before .before .before .before .before .before .before .before .visit .last .1 .1 .1 .1 .0) (c .before .before .before .before .before .before .before .before .before .before .before .before .before .before .before .visit .ensures) (taken .last .1 .0) (taken .last .1 .1 .1 .0) (taken .ensures .turned) (taken .last .1 .1 .1 .1 .0) (taken .ensures .added), c .before .before .before .before .before .before .before .before .before .before .before .before .before .before .before .before .before .before .before .before .before .before .before .before .pre .ready .sized .base .most, c .before .before .before .before .before .before .before .before .before .before .before .before .before .before .before .before .before .before .before .before .before .before .before .before .pre .ready .sized .counts, taken .kept .1 .1 .1 .1 .0, c .before .before .before .before .before .before .before .before .before .before .before .before .before .before .before .before .before .before .before .before .before .before .before .before .good)
+mul-counts-2 c = let a = c .before .before .before .before .before .before .before .before .before .before .before .before .before .before .before .before .before .before .before .before .before .before .before .before .args in let taken = c .before .before .before .before .before .before .before .before .take-all in omega (arith, leader-below (a .n) (a .states .now) (a .links .now) (a .leaders .now) (a .holds .now) (a .counts .now) (a .work .now) (a .p) (c .before .before .before .before .before .before .before .before .before .before .before .before .before .before .before .before .before .before .before .before .before .before .before .before .pre) (c .before .before .before .before .before .before .before .before .before .before .before .before .before .before .before .find .last .1 .1 .1 .0) (c .before .before .before .before .before .before .before .before .before .before .before .before .before .before .before .find .ensures .marked) (taken .last .1 .0) (taken .last .1 .1 .1 .0) (taken .ensures .turned) (taken .last .1 .1 .1 .1 .0) (taken .ensures .added), c .before .before .before .before .before .before .before .before .before .before .before .before .before .before .before .before .before .before .before .before .before .before .before .before .pre .ready .sized .base .most, c .before .before .before .before .before .before .before .before .before .before .before .before .before .before .before .before .before .before .before .before .before .before .before .before .pre .ready .sized .counts, taken .kept .1 .1 .1 .1 .0, c .before .before .before .before .before .before .before .before .before .before .before .before .before .before .before .before .before .before .before .before .before .before .before .before .good)
 
 slice-write-counts : tie.Need-slice-write-counts
-slice-write-counts c = let a = c .before .before .before .before .before .before .before .before .before .before .before .before .before .before .before .before .before .before .before .before .before .before .before .before .args in let taken = c .before .before .before .before .before .before .before .before .take-all in omega (arith, leader-below (a .n) (a .states .now) (a .links .now) (a .leaders .now) (a .holds .now) (a .counts .now) (a .work .now) (a .p) (c .before .before .before .before .before .before .before .before .before .before .before .before .before .before .before .before .before .before .before .before .before .before .before .before .pre) (c .before .before .before .before .before .before .before .before .before .before .before .before .before .before .before .visit .last .1 .1 .1 .1 .0) (c .before .before .before .before .before .before .before .before .before .before .before .before .before .before .before .visit .ensures) (taken .last .1 .0) (taken .last .1 .1 .1 .0) (taken .ensures .turned) (taken .last .1 .1 .1 .1 .0) (taken .ensures .added), c .before .before .before .before .before .before .before .before .before .before .before .before .before .before .before .before .before .before .before .before .before .before .before .before .pre .ready .sized .base .most, c .before .before .before .before .before .before .before .before .before .before .before .before .before .before .before .before .before .before .before .before .before .before .before .before .pre .ready .sized .counts, taken .kept .1 .1 .1 .1 .0)
+slice-write-counts c = let a = c .before .before .before .before .before .before .before .before .before .before .before .before .before .before .before .before .before .before .before .before .before .before .before .before .args in let taken = c .before .before .before .before .before .before .before .before .take-all in omega (arith, leader-below (a .n) (a .states .now) (a .links .now) (a .leaders .now) (a .holds .now) (a .counts .now) (a .work .now) (a .p) (c .before .before .before .before .before .before .before .before .before .before .before .before .before .before .before .before .before .before .before .before .before .before .before .before .pre) (c .before .before .before .before .before .before .before .before .before .before .before .before .before .before .before .find .last .1 .1 .1 .0) (c .before .before .before .before .before .before .before .before .before .before .before .before .before .before .before .find .ensures .marked) (taken .last .1 .0) (taken .last .1 .1 .1 .0) (taken .ensures .turned) (taken .last .1 .1 .1 .1 .0) (taken .ensures .added), c .before .before .before .before .before .before .before .before .before .before .before .before .before .before .before .before .before .before .before .before .before .before .before .before .pre .ready .sized .base .most, c .before .before .before .before .before .before .before .before .before .before .before .before .before .before .before .before .before .before .before .before .before .before .before .before .pre .ready .sized .counts, taken .kept .1 .1 .1 .1 .0)
 
-mul-fill-u32 : tie.Need-mul-fill-u32
-mul-fill-u32 c = search needs
-
-fill-u32-requires : tie.Need-fill-u32-requires
-fill-u32-requires c κs = let a = c .before .before .before .before .before .before .before .before .before .before .before .before .before .before .before .before .before .before .before .before .before .before .before .before .before .args in wide (a .n) (a .states .now) (a .links .now) (a .leaders .now) (a .holds .now) (a .counts .now) (a .work .now) (a .p) (c .before .before .before .before .before .before .before .before .before .before .before .before .before .before .before .before .before .before .before .before .before .before .before .before .before .pre) (c .before .before .before .before .before .before .before .before .before .before .before .before .before .before .before .before .visit .last .1 .1 .1 .1 .0) (c .before .before .before .before .before .before .before .before .before .before .before .before .before .before .before .before .visit .ensures)
+wipe-requires : tie.Need-wipe-requires
+wipe-requires c κs = let a = c .before .before .before .before .before .before .before .before .before .before .before .before .before .before .before .before .before .before .before .before .before .before .before .before .before .args in (c .before .before .before .before .before .before .before .before .before .before .before .before .before .before .before .before .before .before .before .before .before .before .before .before .before .pre .ready .sized .base .most, wide (a .n) (a .states .now) (a .links .now) (a .leaders .now) (a .holds .now) (a .counts .now) (a .work .now) (a .p) (c .before .before .before .before .before .before .before .before .before .before .before .before .before .before .before .before .before .before .before .before .before .before .before .before .before .pre) (c .before .before .before .before .before .before .before .before .before .before .before .before .before .before .before .before .find .last .1 .1 .1 .0) (c .before .before .before .before .before .before .before .before .before .before .before .before .before .before .before .before .find .ensures .marked), c .before .before .before .before .before .before .before .before .before .before .before .before .before .before .before .before .before .before .before .before .before .before .before .before .before .pre .below)
 
 same-length : tie.Need-same-length
 same-length c = c .before .before .before .before .before .before .before .before .before .before .before .before .take-all .kept .1 .0
@@ -74,13 +71,13 @@ returns c =
     let taken = c .before .before .before .before .before .before .before .before .before .before .before .before .take-all in
     let l = taken .last .1 .1 .1 .0 ! a .p in
     let counts = set (taken .last .1 .1 .1 .1 .0) l ((taken .last .1 .1 .1 .1 .0) ! l + 1) in
-    (frozen (a .n) (a .states .now) (a .links .now) (a .leaders .now) (a .holds .now) (a .counts .now) (a .work .now) (a .p) (c .before .before .before .before .before .before .before .before .before .before .before .before .before .before .before .before .before .before .before .before .before .before .before .before .before .before .before .before .pre) (c .before .before .before .before .before .before .before .before .before .before .before .before .before .before .before .before .before .before .before .visit .last .1 .1 .1 .1 .0) (taken .last .1 .0) (taken .last .1 .1 .1 .0) (c .before .before .before .before .before .before .before .before .before .before .before .before .before .before .before .before .before .before .before .visit .ensures) (taken .ensures .turned) counts (length-set (taken .last .1 .1 .1 .1 .0) l ((taken .last .1 .1 .1 .1 .0) ! l + 1) ∙ taken .kept .1 .1 .1 .1 .0 ∙ c .before .before .before .before .before .before .before .before .before .before .before .before .before .before .before .before .before .before .before .before .before .before .before .before .before .before .before .before .pre .ready .sized .counts) (held (a .n) (a .states .now) (a .links .now) (a .leaders .now) (a .holds .now) (a .counts .now) (a .work .now) (a .p) (c .before .before .before .before .before .before .before .before .before .before .before .before .before .before .before .before .before .before .before .before .before .before .before .before .before .before .before .before .pre) (c .before .before .before .before .before .before .before .before .before .before .before .before .before .before .before .before .before .before .before .visit .last .1 .1 .1 .1 .0) (c .before .before .before .before .before .before .before .before .before .before .before .before .before .before .before .before .before .before .before .visit .ensures) (taken .last .1 .0) (taken .last .1 .1 .1 .0) (taken .ensures .turned) (taken .last .1 .1 .1 .1 .0) (taken .ensures .added)), c .before .before .fill-u32 .ensures ∙ wiped (a .n) (a .states .now) (a .links .now) (a .leaders .now) (a .holds .now) (a .counts .now) (a .work .now) (a .p) (c .before .before .before .before .before .before .before .before .before .before .before .before .before .before .before .before .before .before .before .before .before .before .before .before .before .before .before .before .pre) (c .before .before .before .before .before .before .before .before .before .before .before .before .before .before .before .before .before .before .before .visit .last .1 .1 .1 .1 .0) (c .before .before .before .before .before .before .before .before .before .before .before .before .before .before .before .before .before .before .before .visit .ensures))
+    (frozen (a .n) (a .states .now) (a .links .now) (a .leaders .now) (a .holds .now) (a .counts .now) (a .work .now) (a .p) (c .before .before .before .before .before .before .before .before .before .before .before .before .before .before .before .before .before .before .before .before .before .before .before .before .before .before .before .before .pre) (c .before .before .before .before .before .before .before .before .before .before .before .before .before .before .before .before .before .before .before .find .last .1 .1 .1 .0) (taken .last .1 .0) (taken .last .1 .1 .1 .0) (c .before .before .before .before .before .before .before .before .before .before .before .before .before .before .before .before .before .before .before .find .ensures .marked) (taken .ensures .turned) counts (length-set (taken .last .1 .1 .1 .1 .0) l ((taken .last .1 .1 .1 .1 .0) ! l + 1) ∙ taken .kept .1 .1 .1 .1 .0 ∙ c .before .before .before .before .before .before .before .before .before .before .before .before .before .before .before .before .before .before .before .before .before .before .before .before .before .before .before .before .pre .ready .sized .counts) (held (a .n) (a .states .now) (a .links .now) (a .leaders .now) (a .holds .now) (a .counts .now) (a .work .now) (a .p) (c .before .before .before .before .before .before .before .before .before .before .before .before .before .before .before .before .before .before .before .before .before .before .before .before .before .before .before .before .pre) (c .before .before .before .before .before .before .before .before .before .before .before .before .before .before .before .before .before .before .before .find .last .1 .1 .1 .0) (c .before .before .before .before .before .before .before .before .before .before .before .before .before .before .before .before .before .before .before .find .ensures .marked) (taken .last .1 .0) (taken .last .1 .1 .1 .0) (taken .ensures .turned) (taken .last .1 .1 .1 .1 .0) (taken .ensures .added)), c .before .before .wipe .ensures ∙ clear-again (a .n) (a .states .now) (a .links .now) (a .leaders .now) (a .holds .now) (a .counts .now) (a .work .now) (a .p) (c .before .before .before .before .before .before .before .before .before .before .before .before .before .before .before .before .before .before .before .before .before .before .before .before .before .before .before .before .pre) (c .before .before .before .before .before .before .before .before .before .before .before .before .before .before .before .before .before .before .before .find .last .1 .1 .1 .0) (c .before .before .before .before .before .before .before .before .before .before .before .before .before .before .before .before .before .before .before .find .result) (c .before .before .before .before .before .before .before .before .before .before .before .before .before .before .before .before .before .before .before .find .ensures))
 
 pub freeze-draft-spec : {M : Type 1} → statement M
 freeze-draft-spec =
     tie.close
     (tie.spec
-    visit-requires
+    find-requires
     take-all-requires
     mul-l
     slice-read-l
@@ -92,8 +89,7 @@ freeze-draft-spec =
     add-counts
     mul-counts-2
     slice-write-counts
-    mul-fill-u32
-    fill-u32-requires
+    wipe-requires
     same-length
     same-length-2
     same-length-3
