@@ -1,10 +1,11 @@
 -- Counting up: what a piece's holds and each of its places add to the counts of the labels.
-use mathlib.Core.Path.{_≡_, sym, ap, _∙_}
+use mathlib.Core.Path.{_≡_, refl, sym, ap, _∙_}
 use mathlib.Core.List.{List}
 use Prim.Native.Nat.{ℕ, _+_, _*_, _/_, _≤_, _<_}
 use native.Mathlib.Omega.{arith}
 use lib.Dec.{eqb}
-use lib.ListN.{length, set}
+use lib.ListN.{length, set, length-set, drop}
+use lib.Seq.{drop-set-lt}
 use borrow.Author.Tests.{eq-eqb, ne-eqb}
 use Rattle.rules.specs.Limits.{none}
 use Rattle.rules.specs.Below.{sum}
@@ -17,9 +18,26 @@ use Rattle.tallies.specs.Moves.{cross-off, cross-most}
 use Rattle.tallies.specs.Exact.{label-past}
 use Rattle.tallies.specs.Adding.{Labelled, Tallied, Added, added-none, added-one, added-then, added-same}
 
+-- the entries from n on are as they were
+pub record LaterSame (n : ℕ) (c c′ : List ℕ) : Type 0 where
+  pub size : length c′ ≡ length c
+  pub later : drop n c′ ≡ drop n c
+
 -- there is room for one more of 16 bits in every count
 abbrev pub Room : ℕ → List ℕ → Type 0
 Room n counts = (l : ℕ) → l < n → counts ! l ≤ 4294901759
+
+pub added-later : {n : ℕ} {f : ℕ → ℕ} {a b : List ℕ} → Added n f a b → LaterSame n a b
+added-later x = record { size = x .size; later = x .later }
+
+pub same-none : {n : ℕ} {a : List ℕ} → LaterSame n a a
+same-none = record { size = refl; later = refl }
+
+pub same-set : (n : ℕ) (c : List ℕ) (l v : ℕ) → l < n → LaterSame n c (set c l v)
+same-set n c l v h = record { size = length-set c l v; later = drop-set-lt n c l v h }
+
+pub same-then : {n : ℕ} {a b c : List ℕ} → LaterSame n a b → LaterSame n b c → LaterSame n a c
+same-then x y = record { size = y .size ∙ x .size; later = y .later ∙ x .later }
 
 -- ---- the holds of a piece
 

@@ -15,7 +15,7 @@ use Rattle.paths.specs.Classes.{frozen-closed}
 use Rattle.groups.specs.Marked.{Ready, Marked, Of}
 use Rattle.sound.specs.Says.{Says, Below, says-is, says-same}
 use Rattle.sound.specs.Leaders.{LeaderFound, LeadersRight, found→, →found}
-use Rattle.sound.specs.Counted.{Counted, CountFound, CountsRight, counts→, →counts}
+use Rattle.sound.specs.Counted.{Counted, Apart, CountFound, CountsRight, counts→, →counts}
 
 module _ (s : Store) where
   pub not-well : (((p : ℕ) → p < s .base .n → Well (s .base) p) → ⊥) → Sound s → ⊥
@@ -42,30 +42,31 @@ module _ (s : Store) where
 past : (n : ℕ) (l : List ℕ) → drop (8 * n) l ≡ drop (2 * n) (drop (6 * n) l)
 past n l = let e : 8 * n ≡ 6 * n + 2 * n = omega arith in ap (λ (m : ℕ). drop m l) e ∙ sym (drop-drop (2 * n) (6 * n) l)
 
-module _ (s : Store) (z : Sized s) (w : List ℕ) (empty : Clear (s .base .n) w) (wells : (p : ℕ) → p < s .base .n → Well (s .base) p) where
-  pub ready : Ready (s .base .n) (s .base .states) (s .base .links) 2 w
+module _ (s : Store) (z : Sized s) (w : List ℕ) (empty : Clear (s .base .n) w) (wells : (p : ℕ) → p < s .base .n → Well (s .base) p)
+    (w₁ : List ℕ) (A : Apart (s .base .n) w w₁) where
+  pub ready : Ready (s .base .n) (s .base .states) (s .base .links) 2 w₁
   ready = record {
-    lent = record { most = z .base .most; states-n = z .base .states; links-n = z .base .links; work-n = omega (arith, empty .size) };
+    lent = record { most = z .base .most; states-n = z .base .states; links-n = z .base .links; work-n = omega (arith, empty .size, A .size) };
     closed = frozen-closed (s .base) (z .base .most) wells;
-    zeros = λ i h. empty .zeros i (omega arith);
+    zeros = λ i h. A .before i (omega arith) ∙ empty .zeros i (omega arith);
   }
 
-  module _ (w₁ : List ℕ) (M : Marked (s .base .n) (s .base .links) (Of (s .base .states) 2) w w₁) where
-    pub later : drop (8 * s .base .n) w₁ ≡ drop (8 * s .base .n) w
-    later = past (s .base .n) w₁ ∙ ap (drop (2 * s .base .n)) (M .later) ∙ sym (past (s .base .n) w)
+  module _ (w₂ : List ℕ) (M : Marked (s .base .n) (s .base .links) (Of (s .base .states) 2) w₁ w₂) where
+    pub later : drop (8 * s .base .n) w₂ ≡ drop (8 * s .base .n) w
+    later = past (s .base .n) w₂ ∙ ap (drop (2 * s .base .n)) (M .later) ∙ sym (past (s .base .n) w₁) ∙ A .later
 
-    pub zeros : (l : ℕ) → l < s .base .n → w₁ ! (6 * s .base .n + l) ≡ 0
-    zeros l h =
-        sym (getD-drop (6 * s .base .n) w₁ l 0) ∙ ap (λ (x : List ℕ). x ! l) (M .later) ∙ getD-drop (6 * s .base .n) w l 0 ∙ empty .zeros (6 * s .base .n + l) (omega arith)
+    pub led : {r : Bool} → Says (Below (LeaderFound (s .base .n) (s .base .states) (s .leaders) w₂) (s .base .n)) r → Says (LeadersRight (s .base) (s .leaders)) r
+    led = says-same (found→ (s .base) (z .base .most) wells w₁ w₂ M (s .leaders)) (→found (s .base) (z .base .most) wells w₁ w₂ M (s .leaders))
 
-    pub led : {r : Bool} → Says (Below (LeaderFound (s .base .n) (s .base .states) (s .leaders) w₁) (s .base .n)) r → Says (LeadersRight (s .base) (s .leaders)) r
-    led = says-same (found→ (s .base) (z .base .most) wells w w₁ M (s .leaders)) (→found (s .base) (z .base .most) wells w w₁ M (s .leaders))
+    module _ (right : LeadersRight (s .base) (s .leaders)) (C : Counted (s .base .n) (s .base .links) (s .base .holds) (s .leaders) w₁) where
+      -- the search leaves the counts
+      counted-on : Counted (s .base .n) (s .base .links) (s .base .holds) (s .leaders) w₂
+      counted-on l h = sym (getD-drop (6 * s .base .n) w₂ l 0) ∙ ap (λ (x : List ℕ). x ! l) (M .later) ∙ getD-drop (6 * s .base .n) w₁ l 0 ∙ C l h
 
-    module _ (right : LeadersRight (s .base) (s .leaders)) (w₂ : List ℕ) (C : Counted (s .base .n) (s .base .links) (s .base .holds) (s .leaders) w₁ w₂) where
       pub judged : {r : Bool} → Says (Below (CountFound (s .base .n) (s .leaders) (s .counts) w₂) (s .base .n)) r → Says (Sound s) r
       judged x =
           by-counts s wells right
-          (says-same (counts→ (s .base) (z .base .most) wells (s .leaders) (z .leaders) right w₁ w₂ C (s .counts)) (→counts (s .base) (z .base .most) wells (s .leaders) (z .leaders) right w₁ w₂ C (s .counts)) x)
+          (says-same (counts→ (s .base) (z .base .most) wells (s .leaders) (z .leaders) right w₂ counted-on (s .counts)) (→counts (s .base) (z .base .most) wells (s .leaders) (z .leaders) right w₂ counted-on (s .counts)) x)
 
 -- ---- work: cleared, searched over, cleared again
 

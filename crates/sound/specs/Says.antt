@@ -4,8 +4,8 @@ use mathlib.Core.Bool.{Bool, true, false, not}
 use mathlib.Core.Logic.{⊎-elim}
 use Prim.Native.Nat.{ℕ, _+_, _≤_, _<_}
 use native.Mathlib.Omega.{arith}
-use lib.Dec.{T, eqb, ltb, leb}
-use borrow.Author.Tests.{eqb-true, eqb-false, ltb-true, ltb-false, leb-true, leb-false, not-true, not-false}
+use lib.Dec.{T, eqb}
+use borrow.Author.Tests.{eqb-true, eqb-false, not-true, not-false}
 use Rattle.paths.specs.Tools.{lt-or}
 
 -- r is yes exactly if P holds
@@ -25,18 +25,19 @@ says-no f = record { yes = λ e. absurd (apart (sym e)); no = λ _. f }
 pub says-eq : {P : Type 0} (a b : ℕ) → (a ≡ b → P) → (P → a ≡ b) → Says P (eqb a b)
 says-eq a b f g = record { yes = λ e. f (eqb-true a b e); no = λ e p. eqb-false a b e (g p) }
 
-pub says-lt : {P : Type 0} (a b : ℕ) → (a < b → P) → (P → a < b) → Says P (ltb a b)
-says-lt a b f g = record { yes = λ e. f (ltb-true a b e); no = λ e p. let x = ltb-false a b e in let y = g p in omega arith }
-
-pub says-le : {P : Type 0} (a b : ℕ) → (a ≤ b → P) → (P → a ≤ b) → Says P (leb a b)
-says-le a b f g = record { yes = λ e. f (leb-true a b e); no = λ e p. let x = leb-false a b e in let y = g p in omega arith }
-
 -- what a branch on `!r` says
 pub said-no : {P : Type 0} {r : Bool} → Says P r → not r ≡ true → P → ⊥
 said-no {r = r} s e = s .no (not-true r e)
 
 pub said-yes : {P : Type 0} {r : Bool} → Says P r → not r ≡ false → P
 said-yes {r = r} s e = s .yes (not-false r e)
+
+-- the branch on `!r` not taken, and an answer that is no
+pub was-yes : {r : Bool} → not r ≡ false → r ≡ true
+was-yes {r} e = not-false r e
+
+pub never : {A : Type 0} → false ≡ true → A
+never e = absurd (apart (sym e))
 
 -- the same statement in other words
 pub says-same : {P Q : Type 0} {r : Bool} → (P → Q) → (Q → P) → Says P r → Says Q r

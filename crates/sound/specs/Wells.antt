@@ -5,7 +5,6 @@ use mathlib.Core.Logic.{_⊎_, inl, inr, ⊎-elim}
 use mathlib.Core.List.{List}
 use Prim.Native.Nat.{ℕ, _+_, _*_, _≤_, _<_}
 use native.Mathlib.Omega.{arith}
-use lib.Dec.{leb}
 use Rattle.rules.specs.Limits.{mostHolds, none}
 use Rattle.rules.specs.Reach.{Link}
 use Rattle.rules.specs.Tables.{Base, state, linkAt, holdsOf}
@@ -13,7 +12,7 @@ use Rattle.rules.specs.Words.{Frozen, Live, Well, wfree, wdraft, wfrozen}
 use Rattle.paths.specs.Ground.{_!_}
 use Rattle.paths.specs.Tools.{eq-or}
 use Rattle.areas.specs.Four.{Four, fourNone, oneAtMost, places}
-use Rattle.sound.specs.Says.{Says, Below, says-le, says-same}
+use Rattle.sound.specs.Says.{Says, Below, says-same}
 
 abbrev pub baseOf : ℕ → List ℕ → List ℕ → List ℕ → Base
 baseOf n states links holds = record { n = n; states = states; links = links; holds = holds }
@@ -43,15 +42,16 @@ module _ (n : ℕ) (states : List ℕ) (s t : ℕ) (some : t ≡ none → ⊥) w
   link-past h (inl e) = some e
   link-past h (inr w) = omega (arith, w .0)
 
-  pub link-live : t < n → 0 < s → s ≤ 2 → states ! t ≤ 2 → Says (LinkWell n states s t) (leb s (states ! t))
-  link-live h l m u =
-      says-le s (states ! t)
-      (λ x. inr (h, ⊎-elim (λ e. inl (e, ⊎-elim inl (λ d. inr (omega (arith, d))) (eq-or (states ! t) 1))) (λ d. inr (omega (arith, d), omega (arith, d))) (eq-or s 1)))
-      (λ w.
+  pub link-low : states ! t < s → LinkWell n states s t → ⊥
+  link-low h w =
       ⊎-elim
-      (λ z. absurd (some z))
+      (λ z. some z)
       (λ x. ⊎-elim (λ y. ⊎-elim (λ z. omega (arith, y .0)) (λ z. omega (arith, y .0)) (y .1)) (λ y. omega (arith, y .0, y .1)) (x .1))
-      w)
+      w
+
+  pub link-live : t < n → 0 < s → s ≤ 2 → states ! t ≤ 2 → s ≤ states ! t → LinkWell n states s t
+  link-live h l m u x =
+      inr (h, ⊎-elim (λ e. inl (e, ⊎-elim inl (λ d. inr (omega (arith, d))) (eq-or (states ! t) 1))) (λ d. inr (omega (arith, d), omega (arith, d))) (eq-or s 1))
 
 module _ (n : ℕ) (states links : List ℕ) (p w : ℕ) (f : Four links p w) where
   pub links-empty : w ≡ fourNone → LinksWell n states links p 4

@@ -1,23 +1,35 @@
 // The check of whole tables: every piece is well, leaders and counts are as defined, and no group has count 0.
 // Of the work, the first six regions of n entries are the search's, and the seventh has the counts.
 ghost use mathlib.Core.Path.{_≡_};
+ghost use mathlib.Core.Bool.{true};
 ghost use Prim.Native.Nat.{ℕ, _+_, _*_, _≤_, _<_};
 ghost use lib.ListN.{length, drop};
 ghost use Rattle.rules.specs.Tables.{isSound};
-ghost use Rattle.rules.specs.Words.{Well, Sound, Sized};
+ghost use Rattle.rules.specs.Words.{Sound, Sized};
 ghost use Rattle.rules.specs.Calls.{storeOf, clear, Clear};
 ghost use Rattle.paths.specs.Ground.{_!_};
+ghost use Rattle.tallies.specs.Adding.{Labelled, Tallied, Added};
+ghost use Rattle.counts.specs.Added.{LinkAdded, Room, LaterSame, fourPlaces};
 ghost use Rattle.sound.specs.Says.{Says, Below};
 ghost use Rattle.sound.specs.Faults.{Faults};
-ghost use Rattle.sound.specs.Wells.{baseOf, LinkWell, Linked, HoldsWell, Held};
+ghost use Rattle.sound.specs.Wells.{LinkWell, Linked, HoldsWell, Held};
 ghost use Rattle.sound.specs.Leaders.{Led, LeaderFound, LeadersRight};
-ghost use Rattle.sound.specs.Counted.{Counted, CountFound, CountsRight};
+ghost use Rattle.sound.specs.Counted.{Counted, Apart, CountFound, CountsRight};
 use rules::Store;
 
 // Whether a piece of this state, not free, may name the target: none, from a draft a live piece, from a frozen piece a frozen one.
-fn link_well(n: usize, states: &[u8], state: u8, target: u16) -> bool
-    requires { ⌜ (length (now states) ≡ n) × Below (λ q. now states ! q ≤ 2) n × (0 < state) × (state ≤ 2) ⌝ }
-    ensures { λ r. ⌜ Says (LinkWell n (now (states .entry)) state target) r ⌝ }
+// If it may, the link is counted.
+fn link_well(
+    n: usize,
+    states: &[u8],
+    leaders: &[u16],
+    counts: &mut [u32],
+    state: u8,
+    own: usize,
+    target: u16,
+) -> bool
+    requires { ⌜ (length (now states) ≡ n) × Below (λ q. now states ! q ≤ 2) n × (0 < state) × (state ≤ 2) × Labelled n (now leaders) (now counts) × Room n (now counts) ⌝ }
+    ensures { λ r. ⌜ Says (LinkWell n (now (states .entry)) state target) r × (r ≡ true → LinkAdded n (now (leaders .entry)) own target (now (counts .entry)) (now (counts .exit))) × LaterSame n (now (counts .entry)) (now (counts .exit)) ⌝ }
 {
     if target == Store::NONE {
         return true;
@@ -26,13 +38,25 @@ fn link_well(n: usize, states: &[u8], state: u8, target: u16) -> bool
     if n <= t {
         return false;
     }
-    state <= states[t]
+    if states[t] < state {
+        return false;
+    }
+    counts::add_link(n, leaders, counts, own, target);
+    true
 }
 
-// Whether the four links of a piece are well.
-fn links_well(n: usize, states: &[u8], links: &[u16], p: usize) -> bool
-    requires { ⌜ (n ≤ 1024) × (length (now states) ≡ n) × (length (now links) ≡ 4 * n) × Below (λ q. now states ! q ≤ 2) n × (p < n) ⌝ }
-    ensures { λ r. ⌜ Says (Linked n (now (states .entry)) (now (links .entry)) p) r ⌝ }
+// Whether the four links of a piece are well. If they are, each is counted.
+fn links_well(
+    n: usize,
+    states: &[u8],
+    links: &[u16],
+    leaders: &[u16],
+    counts: &mut [u32],
+    p: usize,
+) -> bool
+    requires { ⌜ (length (now states) ≡ n) × (length (now links) ≡ 4 * n) × Below (λ q. now states ! q ≤ 2) n × (p < n) ⌝ }
+    requires { ⌜ Labelled n (now leaders) (now counts) × ((l : ℕ) → l < n → now counts ! l ≤ 67177471) ⌝ }
+    ensures { λ r. ⌜ Says (Linked n (now (states .entry)) (now (links .entry)) p) r × (r ≡ true → Added n (fourPlaces (now (links .entry)) (now (leaders .entry)) p) (now (counts .entry)) (now (counts .exit))) × LaterSame n (now (counts .entry)) (now (counts .exit)) ⌝ }
 {
     let word = areas::four(links, p);
     if word == areas::FOUR_NONE {
@@ -42,29 +66,39 @@ fn links_well(n: usize, states: &[u8], links: &[u16], p: usize) -> bool
     if state == 0 {
         return false;
     }
-    if !link_well(n, states, state, links[4 * p]) {
+    let own = leaders[p] as usize;
+    if !link_well(n, states, leaders, counts, state, own, links[4 * p]) {
         return false;
     }
     if areas::ONE_AT_MOST <= word {
         return true;
     }
-    if !link_well(n, states, state, links[4 * p + 1]) {
+    if !link_well(n, states, leaders, counts, state, own, links[4 * p + 1]) {
         return false;
     }
-    if !link_well(n, states, state, links[4 * p + 2]) {
+    if !link_well(n, states, leaders, counts, state, own, links[4 * p + 2]) {
         return false;
     }
-    link_well(n, states, state, links[4 * p + 3])
+    link_well(n, states, leaders, counts, state, own, links[4 * p + 3])
 }
 
-// Whether the links of all pieces are well.
-fn all_linked(n: usize, states: &[u8], links: &[u16]) -> bool
-    requires { ⌜ (n ≤ 1024) × (length (now states) ≡ n) × (length (now links) ≡ 4 * n) × Below (λ q. now states ! q ≤ 2) n ⌝ }
-    ensures { λ r. ⌜ Says (Below (Linked n (now (states .entry)) (now (links .entry))) n) r ⌝ }
+// Whether the links of all pieces are well. If they are, their holds and their links are counted, into entries that are 0.
+fn all_linked(
+    n: usize,
+    states: &[u8],
+    links: &[u16],
+    leaders: &[u16],
+    holds: &[u16],
+    counts: &mut [u32],
+) -> bool
+    requires { ⌜ (length (now states) ≡ n) × (length (now links) ≡ 4 * n) × (length (now holds) ≡ n) × Below (λ q. now states ! q ≤ 2) n ⌝ }
+    requires { ⌜ Labelled n (now leaders) (now counts) × ((l : ℕ) → l < n → now counts ! l ≡ 0) ⌝ }
+    ensures { λ r. ⌜ Says (Below (Linked n (now (states .entry)) (now (links .entry))) n) r × (r ≡ true → Tallied n (now (links .entry)) (now (holds .entry)) (now (leaders .entry)) (now (counts .entry)) (now (counts .exit))) × LaterSame n (now (counts .entry)) (now (counts .exit)) ⌝ }
 {
     let mut p = 0;
     while p < n {
-        if !links_well(n, states, links, p) {
+        counts::add_hold(n, holds, leaders, counts, p);
+        if !links_well(n, states, links, leaders, counts, p) {
             return false;
         }
         p += 1;
@@ -103,17 +137,6 @@ fn all_held(n: usize, states: &[u8], holds: &[u16]) -> bool
         p += 1;
     }
     faults == 0
-}
-
-// Whether every piece is well: its state, its links and its holds.
-fn all_well(n: usize, states: &[u8], links: &[u16], holds: &[u16]) -> bool
-    requires { ⌜ (n ≤ 1024) × (length (now states) ≡ n) × (length (now links) ≡ 4 * n) × (length (now holds) ≡ n) ⌝ }
-    ensures { λ r. ⌜ Says (Below (Well (baseOf n (now (states .entry)) (now (links .entry)) (now (holds .entry)))) n) r ⌝ }
-{
-    if !all_held(n, states, holds) {
-        return false;
-    }
-    all_linked(n, states, links)
 }
 
 // 1 unless the leader of a piece of this state is the one found: none unless frozen.
@@ -186,14 +209,22 @@ fn counts_found(n: usize, leaders: &[u16], counts: &[u32], work: &[u32]) -> bool
     faults == 0
 }
 
-// Counts all labels, into the seventh region.
-fn count_up(n: usize, links: &[u16], leaders: &[u16], holds: &[u16], work: &mut [u32])
-    requires { ⌜ (n ≤ 1024) × (length (now links) ≡ 4 * n) × (length (now leaders) ≡ n) × (length (now holds) ≡ n) × (8 * n ≤ length (now work)) ⌝ }
-    requires { ⌜ ((l : ℕ) → l < n → now work ! (6 * n + l) ≡ 0) ⌝ }
-    ensures { λ _. ⌜ Counted n (now (links .entry)) (now (holds .entry)) (now (leaders .entry)) (now (work .entry)) (now (work .exit)) ⌝ }
+// Whether the links of all pieces are well. If they are, all labels are counted, into the seventh region.
+fn count_up(
+    n: usize,
+    states: &[u8],
+    links: &[u16],
+    leaders: &[u16],
+    holds: &[u16],
+    work: &mut [u32],
+) -> bool
+    requires { ⌜ (n ≤ 1024) × (length (now states) ≡ n) × (length (now links) ≡ 4 * n) × (length (now leaders) ≡ n) × (length (now holds) ≡ n) × (8 * n ≤ length (now work)) ⌝ }
+    requires { ⌜ Below (λ q. now states ! q ≤ 2) n × ((l : ℕ) → l < n → now work ! (6 * n + l) ≡ 0) ⌝ }
+    ensures { λ r. ⌜ Says (Below (Linked n (now (states .entry)) (now (links .entry))) n) r × (r ≡ true → Counted n (now (links .entry)) (now (holds .entry)) (now (leaders .entry)) (now (work .exit))) × Apart n (now (work .entry)) (now (work .exit)) ⌝ }
 {
     let at = 6 * n;
-    counts::tally_up(n, links, holds, leaders, &mut work[at..]);
+    let linked = all_linked(n, states, links, leaders, holds, &mut work[at..]);
+    linked
 }
 
 // Whether the tables are sound, over work whose first 8N entries are 0.
@@ -209,14 +240,16 @@ fn judge(
     requires { ⌜ Sized (storeOf n (now states) (now links) (now leaders) (now holds) (now counts)) × Clear n (now work) ⌝ }
     ensures { λ r. ⌜ Says (Sound (storeOf n (now (states .entry)) (now (links .entry)) (now (leaders .entry)) (now (holds .entry)) (now (counts .entry)))) r × (drop (8 * n) (now (work .exit)) ≡ drop (8 * n) (now (work .entry))) ⌝ }
 {
-    if !all_well(n, states, links, holds) {
+    if !all_held(n, states, holds) {
+        return false;
+    }
+    if !count_up(n, states, links, leaders, holds, work) {
         return false;
     }
     groups::visit_all(n, states, links, 2, work);
     if !leaders_found(n, states, leaders, work) {
         return false;
     }
-    count_up(n, links, leaders, holds, work);
     counts_found(n, leaders, counts, work)
 }
 
