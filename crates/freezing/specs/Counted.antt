@@ -22,9 +22,10 @@ use Rattle.paths.specs.Ground.{_!_}
 use Rattle.paths.specs.Search as search
 use Rattle.paths.specs.Classes.{frozen-stays}
 use Rattle.groups.specs.Marked.{Marked, Reached}
-use Rattle.freezing.specs.Turned.{Turned, Draft}
+use Rattle.recounting.specs.Turned.{Turned}
+use Rattle.freezing.specs.Draft.{Draft}
 use Rattle.freezing.specs.Joined.{Joined, Apart, tally-joined}
-use Rattle.freezing.specs.Fresh.{fresh, fresh-n, fresh-on, fresh-off, Taking}
+use Rattle.recounting.specs.Fresh.{fresh, fresh-n, fresh-on, fresh-off, Taking}
 
 module _ (n : ℕ) (states links leaders holds counts work : List ℕ) (p : ℕ) (d : Draft n states links leaders holds counts work p) (work′ : List ℕ) (m : Marked n links (Reached n states links 1 p) work work′) where
   abbrev s : Store

@@ -30,7 +30,8 @@ use Rattle.paths.specs.Ground.{_!_}
 use Rattle.paths.specs.Search as search
 use Rattle.paths.specs.Classes.{frozen-stays, lead-leader}
 use Rattle.groups.specs.Marked.{Marked, Reached}
-use Rattle.freezing.specs.Turned.{Turned, Draft}
+use Rattle.recounting.specs.Turned.{Turned}
+use Rattle.freezing.specs.Draft.{Draft}
 
 module _ (n : ℕ) (states links leaders holds counts work : List ℕ) (p : ℕ) (d : Draft n states links leaders holds counts work p) where
   abbrev s : Store

@@ -1,7 +1,5 @@
+pub mod Draft
 pub mod Joined
-pub mod Turned
-pub mod Fresh
-pub mod Passing
 pub mod Counted
 pub mod Frozen
 pub mod Lone

@@ -12,7 +12,7 @@ use Rattle.paths.specs.Ground.{_!_}
 use Rattle.paths.specs.Classes.{drafts-closed}
 use Rattle.groups.specs.Marked as marked
 use Rattle.groups.specs.Marked.{Marked, Reached}
-use Rattle.freezing.specs.Turned.{Draft}
+use Rattle.freezing.specs.Draft.{Draft}
 use Rattle.freezing.specs.Lone.{Searching, Found, wiped, wiped-single}
 
 -- a list whose first k entries are 0

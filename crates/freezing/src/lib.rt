@@ -2,119 +2,17 @@
 ghost use mathlib.Core.Path.{_≡_};
 ghost use mathlib.Core.List.{[]};
 ghost use mathlib.Core.Bool.{true};
-ghost use Prim.Native.Nat.{ℕ, _+_, _*_, _≤_, _<_};
+ghost use Prim.Native.Nat.{_+_, _*_, _≤_, _<_};
 ghost use lib.ListN.{length};
 ghost use Rattle.rules.specs.Calls.{storeOf, Ready, Clear, Did, answered, effect};
 ghost use Rattle.rules.specs.Commands.{nextStore};
 ghost use Rattle.rules.specs.declared.Command.the-variants.{Freeze};
 ghost use Rattle.paths.specs.Ground.{_!_};
-ghost use Rattle.freezing.specs.Turned.{Draft};
-ghost use Rattle.freezing.specs.Fresh.{fresh, Taking, Taken};
+ghost use Rattle.freezing.specs.Draft.{Draft};
 ghost use Rattle.freezing.specs.Lone.{Lone, Searching, Found, wiped};
-ghost use Rattle.freezing.specs.Passing.{Under, Passed, Adding, Added};
 use rules::Answer;
 use rules::Refusal;
 use rules::Store;
-
-// The leader of q, if the search finished it, else none.
-fn leader_of(n: usize, work: &[u32], q: usize) -> usize
-    requires { ⌜ (n ≤ 1024) × (3 * n ≤ length (now work)) × (q < n) ⌝ }
-    ensures { λ r. ⌜ r ≡ fresh n (now (work .entry)) ! q ⌝ }
-{
-    if work[q] == 65535 {
-        return work[2 * n + q] as usize;
-    }
-    Store::NONE as usize
-}
-
-// Adds one to the count of a fresh group for each place of q that names it from outside.
-fn add_places(n: usize, links: &[u16], counts: &mut [u32], work: &[u32], q: usize)
-    requires { ⌜ Adding n (now links) (now counts) (now work) q ⌝ }
-    ensures { λ _. ⌜ Added n (now (links .entry)) (now (counts .entry)) (now (work .entry)) (4 * q) (now (counts .exit)) (4 * q + 4) ⌝ }
-{
-    let own = leader_of(n, work, q);
-    let end = 4 * q + 4;
-    let mut i = 4 * q;
-    while i < end {
-        let t = links[i] as usize;
-        if t < n {
-            let l = leader_of(n, work, t);
-            if l < n {
-                if l != own {
-                    counts[l] = counts[l] + 1;
-                }
-            }
-        }
-        i += 1;
-    }
-}
-
-// Draft q is passed: its places are added, and it becomes frozen, with its leader, if the search finished it.
-fn take_in(
-    n: usize,
-    states: &mut [u8],
-    links: &[u16],
-    leaders: &mut [u16],
-    counts: &mut [u32],
-    work: &[u32],
-    q: usize,
-)
-    requires { ⌜ Under n (now states) (now links) (now leaders) (now counts) (now work) q × (q < n) ⌝ }
-    ensures { λ _. ⌜ Passed n (now (states .entry)) (now (links .entry)) (now (leaders .entry)) (now (counts .entry)) (now (work .entry)) q (now (states .exit)) (now (leaders .exit)) (now (counts .exit)) (q + 1) ⌝ }
-{
-    add_places(n, links, counts, work, q);
-    if work[q] == 65535 {
-        states[q] = 2;
-        leaders[q] = work[2 * n + q] as u16;
-    }
-}
-
-// Passes the pieces from `from` to `to`.
-fn take_part(
-    n: usize,
-    states: &mut [u8],
-    links: &[u16],
-    leaders: &mut [u16],
-    counts: &mut [u32],
-    work: &[u32],
-    from: usize,
-    to: usize,
-)
-    requires { ⌜ Under n (now states) (now links) (now leaders) (now counts) (now work) from × (from ≤ to) × (to ≤ n) ⌝ }
-    ensures { λ _. ⌜ Passed n (now (states .entry)) (now (links .entry)) (now (leaders .entry)) (now (counts .entry)) (now (work .entry)) from (now (states .exit)) (now (leaders .exit)) (now (counts .exit)) to ⌝ }
-{
-    let mut q = from;
-    while q < to {
-        let k = q;
-        q += 1;
-        if states[k] == 1 {
-            take_in(n, states, links, leaders, counts, work, k);
-        }
-    }
-}
-
-// Freezes what the search finished, and counts the places that name it, in one pass over the drafts.
-fn take_all(
-    n: usize,
-    states: &mut [u8],
-    links: &[u16],
-    leaders: &mut [u16],
-    counts: &mut [u32],
-    work: &[u32],
-)
-    requires { ⌜ Taking n (now states) (now links) (now leaders) (now counts) (now work) ⌝ }
-    ensures { λ _. ⌜ Taken n (now (states .entry)) (now (links .entry)) (now (leaders .entry)) (now (counts .entry)) (now (work .entry)) n (now (states .exit)) (now (leaders .exit)) (now (counts .exit)) ⌝ }
-{
-    let mut q: usize = 0;
-    while 64 <= n - q {
-        let k = q;
-        q += 64;
-        if areas::shows(states, 1, k) {
-            take_part(n, states, links, leaders, counts, work, k, q);
-        }
-    }
-    take_part(n, states, links, leaders, counts, work, q, n);
-}
 
 // Whether draft p names no other draft.
 fn lone(n: usize, states: &[u8], links: &[u16], p: usize) -> bool
@@ -181,7 +79,7 @@ fn freeze_draft(
     ensures clear { λ _. ⌜ now (work .exit) ≡ now (work .entry) ⌝ }
 {
     let alone = find(n, states, links, work, p);
-    take_all(n, states, links, leaders, counts, work);
+    recounting::take_all(n, states, links, leaders, counts, work);
     let l = leaders[p] as usize;
     holds[p] = 1;
     counts[l] = counts[l] + 1;

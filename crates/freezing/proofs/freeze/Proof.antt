@@ -3,7 +3,7 @@ use mathlib.Core.Path.{refl}
 use native.Mathlib.Omega.{arith}
 use borrow.Author.Needs.{needs}
 use Rattle.rules.specs.Calls.{storeOf}
-use Rattle.freezing.specs.Turned.{Draft}
+use Rattle.freezing.specs.Draft.{Draft}
 use Rattle.freezing.specs.Again.{freeze-number, freeze-did, again-did}
 use Rattle.freezing.proofs.freeze.Statement.{statement}
 use Rattle.freezing.proofs.freeze.Tie as tie

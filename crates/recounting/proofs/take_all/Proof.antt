@@ -1,11 +1,11 @@
--- `freezing::take_all` meets its contract. The loop's invariant: the pieces below q are passed; a block without drafts is passed as it is. Assumes nothing.
+-- `recounting::take_all` meets its contract. The loop's invariant: the pieces below q are passed; a block without drafts is passed as it is. Assumes nothing.
 use native.Mathlib.Omega.{arith}
 use Prim.Native.Nat.{_+_, _-_, _≤_}
 use mathlib.Core.Path.{_∙_}
-use Rattle.freezing.specs.Fresh.{taken-none}
-use Rattle.freezing.specs.Passing.{Passed, passed-none, passed-on, passed-clear, under-start, under-on, under-sizes}
-use Rattle.freezing.proofs.take_all.Statement.{statement}
-use Rattle.freezing.proofs.take_all.Tie as tie
+use Rattle.recounting.specs.Fresh.{taken-none}
+use Rattle.recounting.specs.Passing.{Passed, passed-none, passed-on, passed-clear, under-start, under-on, under-sizes}
+use Rattle.recounting.proofs.take_all.Statement.{statement}
+use Rattle.recounting.proofs.take_all.Tie as tie
 
 abbrev Inv-loop : tie.InvT-loop
 Inv-loop n states₀ links leaders₀ counts₀ work q₀ states leaders counts q = (q ≤ n) × Passed n states₀ links leaders₀ counts₀ work 0 states leaders counts q

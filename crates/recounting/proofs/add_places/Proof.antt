@@ -1,4 +1,4 @@
--- `freezing::add_places` meets its contract. The loop's invariant: the places passed are added. Assumes nothing.
+-- `recounting::add_places` meets its contract. The loop's invariant: the places passed are added. Assumes nothing.
 use native.Mathlib.Omega.{arith}
 use Prim.Native.Nat.{ℕ, _+_, _*_, _/_, _-_, _≤_, _<_}
 use mathlib.Core.Path.{_≡_, sym, ap, _∙_, subst}
@@ -6,10 +6,10 @@ use mathlib.Core.List.{List}
 use mathlib.Core.Logic.{⊎-elim}
 use Rattle.tallies.specs.Places.{links-fit}
 use Rattle.paths.specs.Ground.{_!_}
-use Rattle.freezing.specs.Fresh.{fresh, labelled-of}
-use Rattle.freezing.specs.Passing.{Added, added-none, added-past, added-old, added-same, added-hit}
-use Rattle.freezing.proofs.add_places.Statement.{statement}
-use Rattle.freezing.proofs.add_places.Tie as tie
+use Rattle.recounting.specs.Fresh.{fresh, labelled-of}
+use Rattle.recounting.specs.Passing.{Added, added-none, added-past, added-old, added-same, added-hit}
+use Rattle.recounting.proofs.add_places.Statement.{statement}
+use Rattle.recounting.proofs.add_places.Tie as tie
 
 abbrev Inv-loop : tie.InvT-loop
 Inv-loop n links counts₀ work q own end i₀ counts i = (4 * q ≤ i) × (i ≤ 4 * q + 4) × Added n links counts₀ work (4 * q) counts i

@@ -1,11 +1,11 @@
--- `freezing::leader_of` meets its contract: the two cases of the fresh leaders. Assumes nothing.
+-- `recounting::leader_of` meets its contract: the two cases of the fresh leaders. Assumes nothing.
 use native.Mathlib.Omega.{arith}
 use Prim.Native.Nat.{_+_, _*_}
 use mathlib.Core.Path.{sym}
-use Rattle.freezing.specs.Fresh.{fresh-on, fresh-off}
+use Rattle.recounting.specs.Fresh.{fresh-on, fresh-off}
 use borrow.Author.Needs.{needs}
-use Rattle.freezing.proofs.leader_of.Statement.{statement}
-use Rattle.freezing.proofs.leader_of.Tie as tie
+use Rattle.recounting.proofs.leader_of.Statement.{statement}
+use Rattle.recounting.proofs.leader_of.Tie as tie
 
 mul-if1 : tie.Need-mul-if1
 mul-if1 c = search needs

@@ -10,8 +10,8 @@ use Rattle.tallies.specs.Adding.{Labelled}
 use Rattle.tallies.specs.Places.{LinksAdded, links-hit, skip-past, skip-none, skip-same}
 use Rattle.paths.specs.Ground.{_!_}
 use Rattle.paths.specs.Search.{finished}
-use Rattle.freezing.specs.Turned.{turned-past, turned-on}
-use Rattle.freezing.specs.Fresh.{fresh, fresh-n, Taking, Taken, taken-none, taken-other}
+use Rattle.recounting.specs.Turned.{turned-past, turned-on}
+use Rattle.recounting.specs.Fresh.{fresh, fresh-n, Taking, Taken, taken-none, taken-other}
 
 -- the pass has come to k
 pub record Under (n : ℕ) (states links leaders counts work : List ℕ) (k : ℕ) : Type 0 where

@@ -1,10 +1,10 @@
--- `freezing::take_part` meets its contract. The loop's invariant: the pieces from `from` to q are passed. Assumes nothing.
+-- `recounting::take_part` meets its contract. The loop's invariant: the pieces from `from` to q are passed. Assumes nothing.
 use native.Mathlib.Omega.{arith}
 use Prim.Native.Nat.{_+_, _-_, _≤_}
 use mathlib.Core.Path.{subst}
-use Rattle.freezing.specs.Passing.{Passed, passed-none, passed-on, passed-other, under-on, under-sizes}
-use Rattle.freezing.proofs.take_part.Statement.{statement}
-use Rattle.freezing.proofs.take_part.Tie as tie
+use Rattle.recounting.specs.Passing.{Passed, passed-none, passed-on, passed-other, under-on, under-sizes}
+use Rattle.recounting.proofs.take_part.Statement.{statement}
+use Rattle.recounting.proofs.take_part.Tie as tie
 
 abbrev Inv-loop : tie.InvT-loop
 Inv-loop n states₀ links leaders₀ counts₀ work from to q₀ states leaders counts q = (from ≤ q) × (q ≤ to) × Passed n states₀ links leaders₀ counts₀ work from states leaders counts q

@@ -7,7 +7,6 @@ use native.Mathlib.Decide.{ℕ-discrete}
 use native.Mathlib.Omega.{arith}
 use lib.ListN.{length, set, length-set}
 use lib.Seq.{getD-set-same, getD-set-other}
-use Rattle.rules.specs.Calls.{storeOf, Ready, Clear}
 use Rattle.paths.specs.Ground.{_!_}
 use Rattle.paths.specs.Search.{finished}
 
@@ -17,13 +16,6 @@ pub record Turned (n : ℕ) (states leaders work : List ℕ) (k : ℕ) (states�
   pub leaders-n : length leaders′ ≡ length leaders
   pub on : (p : ℕ) → p < k → work ! p ≡ finished → (states′ ! p ≡ 2) × (leaders′ ! p ≡ work ! (2 * n + p))
   pub off : (p : ℕ) → (k ≤ p) ⊎ (work ! p ≡ finished → ⊥) → (states′ ! p ≡ states ! p) × (leaders′ ! p ≡ leaders ! p)
-
--- p is a draft of sound tables, and work is clear
-pub record Draft (n : ℕ) (states links leaders holds counts work : List ℕ) (p : ℕ) : Type 0 where
-  pub ready : Ready (storeOf n states links leaders holds counts)
-  pub clear : Clear n work
-  pub below : p < n
-  pub is : states ! p ≡ 1
 
 pub turned-none : (n : ℕ) (states leaders work : List ℕ) → Turned n states leaders work 0 states leaders
 turned-none n states leaders work = record { states-n = refl; leaders-n = refl; on = λ p l. absurd (omega arith); off = λ p h. (refl, refl) }

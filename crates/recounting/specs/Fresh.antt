@@ -16,7 +16,7 @@ use Rattle.tallies.specs.Adding.{Labelled}
 use Rattle.tallies.specs.Places.{LinksAdded, links-none, skip-past, skip-none}
 use Rattle.paths.specs.Ground.{_!_}
 use Rattle.paths.specs.Search.{finished}
-use Rattle.freezing.specs.Turned.{Turned, turned-none, turned-past}
+use Rattle.recounting.specs.Turned.{Turned, turned-none, turned-past}
 
 -- the leaders of what the search finished, and none for all others
 unfoldable pub fresh : ℕ → List ℕ → List ℕ

@@ -1,9 +1,9 @@
--- `freezing::take_in` meets its contract: the places are added, and the piece is turned or left. Assumes nothing.
+-- `recounting::take_in` meets its contract: the places are added, and the piece is turned or left. Assumes nothing.
 use native.Mathlib.Omega.{arith}
 use lib.ListN.{length-set}
-use Rattle.freezing.specs.Passing.{passed-left, passed-fresh}
-use Rattle.freezing.proofs.take_in.Statement.{statement}
-use Rattle.freezing.proofs.take_in.Tie as tie
+use Rattle.recounting.specs.Passing.{passed-left, passed-fresh}
+use Rattle.recounting.proofs.take_in.Statement.{statement}
+use Rattle.recounting.proofs.take_in.Tie as tie
 
 add-places-requires : tie.Need-add-places-requires
 add-places-requires c κs = let u = c .before .before .before .before .before .before .pre .0 in record { states₀ = u .states₀; leaders₀ = u .leaders₀; counts₀ = u .counts₀; taking = u .taking; added = u .taken .added; below = c .before .before .before .before .before .before .pre .1 }

@@ -1,0 +1,3 @@
+pub mod Turned
+pub mod Fresh
+pub mod Passing
