@@ -1,13 +1,16 @@
 -- The places of the search's piece are explored one by one, until one is pushed or none is left.
-use mathlib.Core.Path.{_≡_, refl, _∙_}
+use mathlib.Core.Path.{_≡_, refl, _∙_, subst}
 use mathlib.Core.List.{List}
 use mathlib.Core.Logic.{_⊎_, inl, inr, ⊎-elim}
-use Prim.Native.Nat.{ℕ, _≤_, _<_}
+use Prim.Native.Nat.{ℕ, zero, suc, _+_, _*_, _≤_, _<_}
 use native.Mathlib.Omega.{arith}
 use lib.ListN.{length}
+use Rattle.areas.specs.Four.{Four, oneAtMost}
+use Rattle.paths.specs.Ground.{_!_}
 use Rattle.paths.specs.Search.{measure}
 use Rattle.groups.specs.Layout.{tail}
 use Rattle.groups.specs.Steps.{view, Stands, Going, Stepped, Came, Advanced}
+use Rattle.groups.specs.Explore.{step-none}
 use Rattle.groups.specs.declared.At.{At}
 
 -- where the search stands, by its numbers
@@ -47,3 +50,21 @@ module _ {n : ℕ} {ss ls : List ℕ} {k : ℕ} {w : List ℕ} {a : At} {w₁ : 
 -- where a place is left, less is left than before
 pub advanced-step : {n : ℕ} {ss ls : List ℕ} {k : ℕ} {w : List ℕ} {a : At} {w₁ : List ℕ} {b : At} → Advanced n ss ls k w a w₁ b → (b .place ≡ 4 → ⊥) → Stepped n ss ls k w a w₁ b
 advanced-step A d = record { stands = A .came .stands; less = ⊎-elim (λ e. absurd (d e)) (λ l. l) (A .done); tail-same = A .came .tail-same }
+
+-- the places left name no piece
+module _ {n : ℕ} {ss ls : List ℕ} {k : ℕ} {w : List ℕ} where
+  pub came-rest : (m : ℕ) {a : At} → Going n ss ls k w a → a .place + m ≡ 4 → ((j : ℕ) → a .place ≤ j → j < 4 → n ≤ ls ! (4 * a .piece + j))
+      → Came n ss ls k w a w (at (a .size) (a .stand) (a .piece) (a .blocks) 4)
+  came-rest zero {a} G e h =
+      let z : a .place ≡ 4 = omega arith in
+      subst (λ (j : ℕ). Came n ss ls k w a w (at (a .size) (a .stand) (a .piece) (a .blocks) j)) z came-none
+  came-rest (suc m) {a} G e h =
+      let T = step-none G (omega arith) (h (a .place) (omega arith) (omega arith)) in
+      let b : At = at (a .size) (a .stand) (a .piece) (a .blocks) (a .place + 1) in
+      let P : Came n ss ls k w a w b = came-more came-none refl T in
+      let Q : Came n ss ls k w b w (at (a .size) (a .stand) (a .piece) (a .blocks) 4) = came-rest m (came-going P G (G .live)) (omega arith) (λ j l u. h j (omega arith) u) in
+      record { len = Q .len ∙ P .len; stands = λ old root S. Q .stands old root (P .stands old root S); most = omega (arith, P .most, Q .most); tail-same = Q .tail-same ∙ P .tail-same }
+
+  -- only the first place names a piece
+  pub came-one : {a : At} {word : ℕ} → Going n ss ls k w a → Four ls (a .piece) word → oneAtMost ≤ word → a .place ≡ 1 → Came n ss ls k w a w (at (a .size) (a .stand) (a .piece) (a .blocks) 4)
+  came-one {a} G f l e = came-rest 3 G (omega arith) (λ j u v. omega (arith, f .rest l j v (omega arith), G .lent .most))

@@ -68,6 +68,17 @@ fn explore(n: usize, states: &[u8], links: &[u16], class: u8, work: &mut [u32], 
     let piece = a.piece;
     let mut blocks = a.blocks;
     let mut place = a.place;
+    if place == 1 {
+        if areas::ONE_AT_MOST <= areas::four(links, piece) {
+            return At {
+                size: size,
+                blocks: blocks,
+                stand: stand,
+                piece: piece,
+                place: 4,
+            };
+        }
+    }
     while place < 4 {
         let target = links[4 * piece + place] as usize;
         place += 1;
