@@ -14,9 +14,6 @@ use Rattle.paths.specs.Tools.{eq-or}
 use Rattle.areas.specs.Four.{Four, fourNone, oneAtMost, places}
 use Rattle.sound.specs.Says.{Says, Below, says-same}
 
-abbrev pub baseOf : ℕ → List ℕ → List ℕ → List ℕ → Base
-baseOf n states links holds = record { n = n; states = states; links = links; holds = holds }
-
 -- a draft's link may name a live piece, a frozen piece's a frozen one, and any link none
 abbrev pub LinkWell : ℕ → List ℕ → ℕ → ℕ → Type 0
 LinkWell n states s t = (t ≡ none) ⊎ ((t < n) × (((s ≡ 1) × ((states ! t ≡ 1) ⊎ (states ! t ≡ 2))) ⊎ ((s ≡ 2) × (states ! t ≡ 2))))
@@ -25,15 +22,13 @@ LinkWell n states s t = (t ≡ none) ⊎ ((t < n) × (((s ≡ 1) × ((states ! t
 abbrev pub HoldsWell : ℕ → ℕ → Type 0
 HoldsWell s h = ((s < 2) × (h ≡ 0)) ⊎ ((s ≡ 2) × (h ≤ mostHolds))
 
+-- the state and the holds of p are well
 abbrev pub Held : List ℕ → List ℕ → ℕ → Type 0
 Held states holds p = HoldsWell (states ! p) (holds ! p)
 
-abbrev pub LinksWell : ℕ → List ℕ → List ℕ → ℕ → ℕ → Type 0
-LinksWell n states links p k = Below (λ j. LinkWell n states (states ! p) (links ! (4 * p + j))) k
-
 -- the four links of p are well
 abbrev pub Linked : ℕ → List ℕ → List ℕ → ℕ → Type 0
-Linked n states links p = LinksWell n states links p 4
+Linked n states links p = Below (λ j. LinkWell n states (states ! p) (links ! (4 * p + j))) 4
 
 -- ---- what each return of the tests says
 
@@ -54,25 +49,25 @@ module _ (n : ℕ) (states : List ℕ) (s t : ℕ) (some : t ≡ none → ⊥) w
       inr (h, ⊎-elim (λ e. inl (e, ⊎-elim inl (λ d. inr (omega (arith, d))) (eq-or (states ! t) 1))) (λ d. inr (omega (arith, d), omega (arith, d))) (eq-or s 1))
 
 module _ (n : ℕ) (states links : List ℕ) (p w : ℕ) (f : Four links p w) where
-  pub links-empty : w ≡ fourNone → LinksWell n states links p 4
+  pub links-empty : w ≡ fourNone → Linked n states links p
   links-empty e j h = inl (f .empty e j h)
 
-  pub links-free : (w ≡ fourNone → ⊥) → states ! p ≡ 0 → LinksWell n states links p 4 → ⊥
+  pub links-free : (w ≡ fourNone → ⊥) → states ! p ≡ 0 → Linked n states links p → ⊥
   links-free d e x =
       f .named d (λ k h. ⊎-elim (λ z. z) (λ y. absurd (⊎-elim (λ z. omega (arith, z .0)) (λ z. omega (arith, z .0)) (y .1))) (x k h))
 
   first : LinkWell n states (states ! p) (links ! (4 * p)) → LinkWell n states (states ! p) (links ! (4 * p + 0))
   first x = let e : 4 * p ≡ 4 * p + 0 = omega arith in subst (λ (i : ℕ). LinkWell n states (states ! p) (links ! i)) e x
 
-  pub links-one : oneAtMost ≤ w → LinkWell n states (states ! p) (links ! (4 * p)) → LinksWell n states links p 4
+  pub links-one : oneAtMost ≤ w → LinkWell n states (states ! p) (links ! (4 * p)) → Linked n states links p
   links-one l x =
       places (λ j. LinkWell n states (states ! p) (links ! (4 * p + j))) (first x) (inl (f .rest l 1 (omega arith) (omega arith))) (inl (f .rest l 2 (omega arith) (omega arith))) (inl (f .rest l 3 (omega arith) (omega arith)))
 
   pub links-four : LinkWell n states (states ! p) (links ! (4 * p)) → LinkWell n states (states ! p) (links ! (4 * p + 1)) → LinkWell n states (states ! p) (links ! (4 * p + 2))
-      → LinkWell n states (states ! p) (links ! (4 * p + 3)) → LinksWell n states links p 4
+      → LinkWell n states (states ! p) (links ! (4 * p + 3)) → Linked n states links p
   links-four x y z u = places (λ j. LinkWell n states (states ! p) (links ! (4 * p + j))) (first x) y z u
 
-  pub not-first : (LinkWell n states (states ! p) (links ! (4 * p)) → ⊥) → LinksWell n states links p 4 → ⊥
+  pub not-first : (LinkWell n states (states ! p) (links ! (4 * p)) → ⊥) → Linked n states links p → ⊥
   not-first g x = let e : 4 * p + 0 ≡ 4 * p = omega arith in g (subst (λ (i : ℕ). LinkWell n states (states ! p) (links ! i)) e (x 0 (omega arith)))
 
 module _ (s h : ℕ) where
@@ -109,7 +104,7 @@ module _ (b : Base) where
   free-link t (inl e) = e
   free-link t (inr w) = absurd (⊎-elim (λ d. let z = d .0 in omega arith) (λ f. let z = f .0 in omega arith) (w .1))
 
-  pub →well : (p : ℕ) → HoldsWell (b .states ! p) (b .holds ! p) → LinksWell (b .n) (b .states) (b .links) p 4 → Well b p
+  pub →well : (p : ℕ) → HoldsWell (b .states ! p) (b .holds ! p) → Linked (b .n) (b .states) (b .links) p → Well b p
   unfolding state linkAt holdsOf
   →well p (inl h) ls =
       ⊎-elim
@@ -127,7 +122,7 @@ module _ (b : Base) where
   holds-of p (wdraft w) = inl (omega (arith, w .is), w .holds)
   holds-of p (wfrozen w) = inr (w .is, w .holds)
 
-  pub links-of : (p : ℕ) → Well b p → LinksWell (b .n) (b .states) (b .links) p 4
+  pub links-of : (p : ℕ) → Well b p → Linked (b .n) (b .states) (b .links) p
   unfolding state linkAt
   links-of p (wfree w) k l = inl (w .links k l)
   links-of p (wdraft w) k l =

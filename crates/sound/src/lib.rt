@@ -1,5 +1,6 @@
 // The check of whole tables: every piece is well, leaders and counts are as defined, and no group has count 0.
 // Of the work, the first six regions of n entries are the search's, and the seventh has the counts.
+// A pass that only compares counts its faults and is not left early: such a loop compiles to vector instructions.
 ghost use mathlib.Core.Path.{_≡_};
 ghost use mathlib.Core.Bool.{true};
 ghost use Prim.Native.Nat.{ℕ, _+_, _*_, _≤_, _<_};
@@ -16,6 +17,39 @@ ghost use Rattle.sound.specs.Wells.{LinkWell, Linked, HoldsWell, Held};
 ghost use Rattle.sound.specs.Leaders.{Led, LeaderFound, LeadersRight};
 ghost use Rattle.sound.specs.Counted.{Counted, Apart, CountFound, CountsRight};
 use rules::Store;
+
+// 1 unless the holds of a piece of this state are well: 0 unless frozen, and at most 1,000.
+fn holds_fault(state: u8, holds: u16) -> u16
+    ensures { λ r. ⌜ Faults (HoldsWell state holds) 1 r ⌝ }
+{
+    if state == 2 {
+        if holds <= Store::HOLDS {
+            return 0;
+        }
+        return 1;
+    }
+    if 2 < state {
+        return 1;
+    }
+    if holds == 0 {
+        return 0;
+    }
+    1
+}
+
+// Whether the states and the holds of all pieces are well.
+fn all_held(n: usize, states: &[u8], holds: &[u16]) -> bool
+    requires { ⌜ (n ≤ 1024) × (length (now states) ≡ n) × (length (now holds) ≡ n) ⌝ }
+    ensures { λ r. ⌜ Says (Below (Held (now (states .entry)) (now (holds .entry))) n) r ⌝ }
+{
+    let mut faults: u16 = 0;
+    let mut p = 0;
+    while p < n {
+        faults = faults + holds_fault(states[p], holds[p]);
+        p += 1;
+    }
+    faults == 0
+}
 
 // Whether a piece of this state, not free, may name the target: none, from a draft a live piece, from a frozen piece a frozen one.
 // If it may, the link is counted.
@@ -106,37 +140,22 @@ fn all_linked(
     true
 }
 
-// 1 unless the holds of a piece of this state are well: 0 unless frozen, and at most 1,000.
-fn holds_fault(state: u8, holds: u16) -> u16
-    ensures { λ r. ⌜ Faults (HoldsWell state holds) 1 r ⌝ }
+// Whether the links of all pieces are well. If they are, all labels are counted, into the seventh region.
+fn count_up(
+    n: usize,
+    states: &[u8],
+    links: &[u16],
+    leaders: &[u16],
+    holds: &[u16],
+    work: &mut [u32],
+) -> bool
+    requires { ⌜ (n ≤ 1024) × (length (now states) ≡ n) × (length (now links) ≡ 4 * n) × (length (now leaders) ≡ n) × (length (now holds) ≡ n) × (8 * n ≤ length (now work)) ⌝ }
+    requires { ⌜ Below (λ q. now states ! q ≤ 2) n × ((l : ℕ) → l < n → now work ! (6 * n + l) ≡ 0) ⌝ }
+    ensures { λ r. ⌜ Says (Below (Linked n (now (states .entry)) (now (links .entry))) n) r × (r ≡ true → Counted n (now (links .entry)) (now (holds .entry)) (now (leaders .entry)) (now (work .exit))) × Apart n (now (work .entry)) (now (work .exit)) ⌝ }
 {
-    if state == 2 {
-        if holds <= Store::HOLDS {
-            return 0;
-        }
-        return 1;
-    }
-    if 2 < state {
-        return 1;
-    }
-    if holds == 0 {
-        return 0;
-    }
-    1
-}
-
-// Whether the states and the holds of all pieces are well.
-fn all_held(n: usize, states: &[u8], holds: &[u16]) -> bool
-    requires { ⌜ (n ≤ 1024) × (length (now states) ≡ n) × (length (now holds) ≡ n) ⌝ }
-    ensures { λ r. ⌜ Says (Below (Held (now (states .entry)) (now (holds .entry))) n) r ⌝ }
-{
-    let mut faults: u16 = 0;
-    let mut p = 0;
-    while p < n {
-        faults = faults + holds_fault(states[p], holds[p]);
-        p += 1;
-    }
-    faults == 0
+    let at = 6 * n;
+    let linked = all_linked(n, states, links, leaders, holds, &mut work[at..]);
+    linked
 }
 
 // 1 unless the leader of a piece of this state is the one found: none unless frozen.
@@ -207,24 +226,6 @@ fn counts_found(n: usize, leaders: &[u16], counts: &[u32], work: &[u32]) -> bool
         p += 1;
     }
     faults == 0
-}
-
-// Whether the links of all pieces are well. If they are, all labels are counted, into the seventh region.
-fn count_up(
-    n: usize,
-    states: &[u8],
-    links: &[u16],
-    leaders: &[u16],
-    holds: &[u16],
-    work: &mut [u32],
-) -> bool
-    requires { ⌜ (n ≤ 1024) × (length (now states) ≡ n) × (length (now links) ≡ 4 * n) × (length (now leaders) ≡ n) × (length (now holds) ≡ n) × (8 * n ≤ length (now work)) ⌝ }
-    requires { ⌜ Below (λ q. now states ! q ≤ 2) n × ((l : ℕ) → l < n → now work ! (6 * n + l) ≡ 0) ⌝ }
-    ensures { λ r. ⌜ Says (Below (Linked n (now (states .entry)) (now (links .entry))) n) r × (r ≡ true → Counted n (now (links .entry)) (now (holds .entry)) (now (leaders .entry)) (now (work .exit))) × Apart n (now (work .entry)) (now (work .exit)) ⌝ }
-{
-    let at = 6 * n;
-    let linked = all_linked(n, states, links, leaders, holds, &mut work[at..]);
-    linked
 }
 
 // Whether the tables are sound, over work whose first 8N entries are 0.
