@@ -21,7 +21,8 @@ use Rattle.rules.specs.declared.Command.the-variants.{Bin}
 use Rattle.rules.specs.declared.Answer.the-variants.{Refused}
 use Rattle.laws.specs.Below.{T-dec, pick-true, pick-false, getD-table, length-table}
 use Rattle.laws.specs.Words.{eqb-of, neqb-of}
-use Rattle.laws.specs.Commands.{Passes, edit-well, live-draft, draft-of}
+use Rattle.laws.specs.Passes.{Passes, live-draft, draft-of}
+use Rattle.laws.specs.Commands.{edit-well}
 use Rattle.laws.specs.Settle.{link-kept, state-kept, freed-well, frozen-kept}
 use Rattle.tallies.specs.Sums.{eq-or, lt-or, set-cases, sum-cong}
 use Rattle.tallies.specs.Tally.{_!_, label, cross, held, placed, tally}

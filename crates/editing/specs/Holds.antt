@@ -18,7 +18,8 @@ use Rattle.rules.specs.declared.Command.the-variants.{Acquire, Release}
 use Rattle.rules.specs.declared.Answer.the-variants.{Done, Refused}
 use Rattle.laws.specs.Tests.{and-both, and-right}
 use Rattle.laws.specs.Words.{eqb-of, neqb-of, →isFrozen}
-use Rattle.laws.specs.Commands.{Passes, edit-well, live-frozen}
+use Rattle.laws.specs.Passes.{Passes, live-frozen}
+use Rattle.laws.specs.Commands.{edit-well}
 use Rattle.tallies.specs.Sums.{getD-any}
 use Rattle.tallies.specs.Tally.{_!_, label, CountsMatch}
 use Rattle.tallies.specs.Moves.{match-hold, hold-counts}

@@ -16,7 +16,8 @@ use Rattle.rules.specs.Words.{Frozen, Well}
 use Rattle.rules.specs.Commands.{wrongNumber, namesFree, wrongState, edit, withLinks, settles, valueOf}
 use Rattle.rules.specs.Calls.{acceptedBy, doneBy, storeOf, Ready}
 use Rattle.rules.specs.declared.Command.the-variants.{Set}
-use Rattle.laws.specs.Commands.{Passes, edit-well, live-draft, not-or-left}
+use Rattle.laws.specs.Passes.{Passes, live-draft, not-or-left}
+use Rattle.laws.specs.Commands.{edit-well}
 use Rattle.tallies.specs.Tally.{_!_, label, tally}
 use Rattle.tallies.specs.Moves.{link-moves, cross-off}
 use Rattle.tallies.specs.Exact.{Exact}

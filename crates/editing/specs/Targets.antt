@@ -16,7 +16,7 @@ use Rattle.rules.specs.declared.Command.the-variants.{Set}
 use Rattle.rules.specs.declared.Answer.the-variants.{Refused}
 use Rattle.laws.specs.Tests.{or-cases}
 use Rattle.laws.specs.Words.{eqb-of, neqb-of}
-use Rattle.laws.specs.Commands.{Passes, not-or-left, not-or-right, not-not}
+use Rattle.laws.specs.Passes.{Passes, not-or-left, not-or-right, not-not}
 use Rattle.tallies.specs.Tally.{_!_}
 use Rattle.falling.specs.Steps.{base}
 use Rattle.laws.specs.Verdicts.{by-number, by-free, by-state, did-refused}

@@ -21,7 +21,7 @@ use Rattle.rules.specs.Words.{Frozen, Reaches, Group, Root, Kept, Well, wfree, 
 use Rattle.laws.specs.Words.{trans, →isFrozen, isFrozen→, isKept→, →isKept}
 use Rattle.laws.specs.Counts.{reachers, fewer, sum-pos}
 use Rattle.rules.specs.Commands.{freeAll, gone}
-use Rattle.laws.specs.Commands.{frozen-of}
+use Rattle.laws.specs.Passes.{frozen-of}
 use Rattle.tallies.specs.Sums.{eq-or, lt-or, onlyIf-pos}
 use Rattle.tallies.specs.Tally.{_!_, label, cross, held, placed, tally}
 use Rattle.tallies.specs.Moves.{cross-on, cross-pos, link-counts, hold-counts}

@@ -9,7 +9,7 @@ use lib.Seq.{getD-set-other}
 use Rattle.rules.specs.Limits.{none}
 use Rattle.rules.specs.Tables.{Base, linkAt}
 use Rattle.rules.specs.Words.{Frozen, Well}
-use Rattle.laws.specs.Commands.{frozen-of}
+use Rattle.laws.specs.Passes.{frozen-of}
 use Rattle.tallies.specs.Sums.{getD-any}
 use Rattle.tallies.specs.Tally.{_!_, label}
 use Rattle.tallies.specs.Exact.{Exact, label-past, label-frozen, label-below, label-own}

@@ -19,7 +19,7 @@ use Rattle.rules.specs.declared.Answer.{Answer}
 use Rattle.rules.specs.declared.Answer.the-variants.{Refused}
 use Rattle.laws.specs.Below.{pick-true}
 use Rattle.laws.specs.Words.{neqb-of, isDraft→, →isFrozen}
-use Rattle.laws.specs.Commands.{Passes, live-frozen, passes}
+use Rattle.laws.specs.Passes.{Passes, live-frozen, passes}
 use Rattle.laws.specs.Verdicts.{accepts, by-number, did-refused, did-accepted}
 use Rattle.tallies.specs.Stores.{wells-of}
 use Rattle.paths.specs.Ground.{_!_}

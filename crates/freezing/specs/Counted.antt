@@ -11,7 +11,7 @@ use Rattle.rules.specs.Tables.{Base, Store, state, linkAt, holdsOf}
 use Rattle.rules.specs.Words.{Frozen, Reaches, Well, wfree, wdraft, wfrozen}
 use Rattle.rules.specs.Calls.{storeOf}
 use Rattle.laws.specs.Words.{end-below}
-use Rattle.laws.specs.Commands.{draft-of}
+use Rattle.laws.specs.Passes.{draft-of}
 use Rattle.tallies.specs.Sums.{eq-or, lt-or, getD-any}
 use Rattle.tallies.specs.Tally.{label, CountsMatch}
 use Rattle.tallies.specs.Moves.{tally-most, match-hold}

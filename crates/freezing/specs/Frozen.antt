@@ -20,7 +20,7 @@ use Rattle.laws.specs.Tests.{and-both, and-left, and-right}
 use Rattle.laws.specs.Below.{T-dec, pick-true, pick-false, length-table, getD-table}
 use Rattle.laws.specs.Words.{end-below, isDraft→, →isDraft, not-frozen, reaches→, →reaches}
 use Rattle.laws.specs.Sound.{Good}
-use Rattle.laws.specs.Commands.{freeze-first-good}
+use Rattle.laws.specs.Edits.Freeze.{freeze-first-good}
 use Rattle.tallies.specs.Sums.{getD-any}
 use Rattle.tallies.specs.Tally.{label, CountsMatch}
 use Rattle.tallies.specs.Exact.{Exact}

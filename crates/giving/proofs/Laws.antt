@@ -26,7 +26,8 @@ use Rattle.laws.specs.Below.{→every, every→, Lowest}
 use Rattle.laws.specs.Words.{eqb-of, neqb-of}
 use Rattle.laws.specs.Sound.{Good, determined}
 use Rattle.laws.specs.Delta.{SameFrozen}
-use Rattle.laws.specs.Commands.{Passes, first-free, edit-well}
+use Rattle.laws.specs.Passes.{Passes}
+use Rattle.laws.specs.Commands.{first-free, edit-well}
 use Rattle.laws.specs.Verdicts.{accepts, by-number, by-free, by-full, did-refused, did-accepted}
 use Rattle.tallies.specs.Tally.{_!_, CountsMatch}
 use Rattle.tallies.specs.Exact.{Exact}

@@ -23,7 +23,8 @@ use Rattle.laws.specs.Tests.{and-both, and-left, and-right}
 use Rattle.laws.specs.Below.{pick-true, pick-false}
 use Rattle.laws.specs.Words.{eqb-of}
 use Rattle.laws.specs.Sound.{isSound→}
-use Rattle.laws.specs.Commands.{not-not, first-accepted, Passes, passes, Ok, next-ok}
+use Rattle.laws.specs.Passes.{not-not, first-accepted, Passes, passes}
+use Rattle.laws.specs.Commands.{Ok, next-ok}
 
 -- promises decide: two outcomes, with all areas, that both meet a call's promise are the same
 pub decides : {c : Call} {a : Areas} {o o′ : Outcome} → Promise c a o → Promise c a o′ → o ≡ o′

@@ -27,8 +27,6 @@ use Rattle.laws.specs.Edits.Set.{set-well, setBase}
 use Rattle.laws.specs.Edits.Hold.{hold-good, hold-well, holdBase}
 use Rattle.laws.specs.Edits.Freeze.{fr, fr-good}
 use Rattle.laws.specs.Edits.Bin.{bin-well}
-pub use Rattle.laws.specs.Passes.{first-accepted, Passes, passes, not-or-left, not-or-right, not-not, free-of, draft-of, frozen-of, live-draft, live-frozen}
-pub use Rattle.laws.specs.Edits.Freeze.{freeze-first-good}
 
 -- ---- each command
 

@@ -16,7 +16,7 @@ use Rattle.rules.specs.Reach.{Reach, here, chain, Link}
 use Rattle.rules.specs.Tables.{Base, state, isDraft, isFrozen, isLive, linkAt, holdsOf, reaches, inGroup, places, countOf}
 use Rattle.rules.specs.Words.{Draft, Frozen, Live, Reaches, Group, FrozenWell, Well, wfree, wdraft, wfrozen}
 use Rattle.laws.specs.Words.{trans, reaches→, →reaches, inGroup→, →inGroup, →isDraft, isFrozen→, →isFrozen, not-frozen}
-use Rattle.laws.specs.Commands.{frozen-of}
+use Rattle.laws.specs.Passes.{frozen-of}
 
 sum-cong : (f g : ℕ → ℕ) (k : ℕ) → ((p : ℕ) → p < k → f p ≡ g p) → sum f k ≡ sum g k
 unfolding sum

@@ -22,7 +22,8 @@ use Rattle.rules.specs.declared.Command.the-variants.{New, Set, Freeze, Acquire
 use Rattle.laws.specs.Below.{among-nil, ascending-list}
 use Rattle.laws.specs.Words.{end-below, root-below}
 use Rattle.laws.specs.Sound.{Good, sound→entries}
-use Rattle.laws.specs.Commands.{Passes, passes, edit-n, edit-well, freed↔, Ok}
+use Rattle.laws.specs.Passes.{Passes, passes}
+use Rattle.laws.specs.Commands.{edit-n, edit-well, freed↔, Ok}
 use Rattle.laws.specs.Calls.{accepted-judged, accepted-outcome, judged}
 use Rattle.laws.specs.Held.{after-same}
 use Rattle.laws.specs.History.{Stands, stands}

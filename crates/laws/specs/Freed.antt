@@ -22,7 +22,8 @@ use Rattle.laws.specs.Below.{T-dec, pick-true, pick-false, getD-table, a
 use Rattle.laws.specs.Words.{eqb-of, isDraft→, isFrozen→}
 use Rattle.laws.specs.Sound.{Good}
 use Rattle.laws.specs.Settle.{state-freeAll}
-use Rattle.laws.specs.Commands.{Passes, below-of, live-draft, first-free-state, first-free, edit-n}
+use Rattle.laws.specs.Passes.{Passes, live-draft}
+use Rattle.laws.specs.Commands.{below-of, first-free-state, first-free, edit-n}
 
 module _ (b : Base) (z : SizedBase b) (g : Good b) where
   -- new makes one number a draft

@@ -23,7 +23,8 @@ use Rattle.laws.specs.Below.{T-dec, pick-true, pick-false}
 use Rattle.laws.specs.Words.{eqb-of, neqb-of, isFrozen→, →isKept}
 use Rattle.laws.specs.Sound.{Good}
 use Rattle.laws.specs.Settle.{holds-freeAll}
-use Rattle.laws.specs.Commands.{Passes, below-of, draft-of, live-draft, edit-n}
+use Rattle.laws.specs.Passes.{Passes, draft-of, live-draft}
+use Rattle.laws.specs.Commands.{below-of, edit-n}
 
 module _ (b : Base) (z : SizedBase b) (g : Good b) where
   -- the holds of p where those of q became v

@@ -23,7 +23,8 @@ use Rattle.rules.specs.declared.Checked.the-variants.{Yes, No, Unchecked}
 use Rattle.laws.specs.Tests.{and-left, and-right, or-left, or-cases}
 use Rattle.laws.specs.Below.{T-dec, pick-true, pick-false, Lowest, lowest-is}
 use Rattle.laws.specs.Sound.{Good, sound→entries}
-use Rattle.laws.specs.Commands.{first-free-state, Passes, passes, free-of, after-n, Ok, next-ok}
+use Rattle.laws.specs.Passes.{Passes, passes, free-of}
+use Rattle.laws.specs.Commands.{first-free-state, after-n, Ok, next-ok}
 use Rattle.laws.specs.Calls.{accepted-judged, accepted-outcome, Accepted, judged, empty-ok}
 use Rattle.laws.specs.Held.{after-holds}
 

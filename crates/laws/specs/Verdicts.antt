@@ -12,7 +12,7 @@ use Rattle.rules.specs.Calls.{Reply, Effect, effect, effected, effectOf, refuse
 use Rattle.rules.specs.declared.Refusal.{Refusal}
 use Rattle.rules.specs.declared.Refusal.the-variants.{Number, Free, State, Limit, NotHeld, Linked, Full}
 use Rattle.rules.specs.declared.Command.{Command}
-use Rattle.laws.specs.Commands.{Passes}
+use Rattle.laws.specs.Passes.{Passes}
 
 -- none of the first i rows applies
 abbrev pub Clear : ℕ → List (Bool × Refusal) → Type 0

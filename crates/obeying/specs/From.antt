@@ -20,7 +20,8 @@ use Rattle.rules.specs.declared.Command.the-variants.{New, Set, Freeze, Acquire
 use Rattle.rules.specs.declared.Answer.the-variants.{Done, Refused}
 use Rattle.laws.specs.Below.{among-nil, among-cons, Lowest}
 use Rattle.laws.specs.Words.{eqb-of}
-use Rattle.laws.specs.Commands.{Passes, passes, first-free, after-n}
+use Rattle.laws.specs.Passes.{Passes, passes}
+use Rattle.laws.specs.Commands.{first-free, after-n}
 use Rattle.laws.specs.Demand3.{ascending-freed}
 use Rattle.laws.specs.Freed.{alone}
 use Rattle.tallies.specs.Stores.{good-of}

@@ -18,7 +18,8 @@ use Rattle.rules.specs.declared.Line.{Line}
 use Rattle.rules.specs.declared.Line.the-variants.{Does, Bad}
 use Rattle.rules.specs.declared.Command.{Command}
 use Rattle.rules.specs.declared.Command.the-variants.{New, Set, Freeze, Acquire, Release, Bin, Look}
-use Rattle.laws.specs.Commands.{Ok, step-ok, edit-n, after-n, next-ok, passes}
+use Rattle.laws.specs.Passes.{passes}
+use Rattle.laws.specs.Commands.{Ok, step-ok, edit-n, after-n, next-ok}
 use Rattle.laws.specs.Counts.{sum-most}
 use Rattle.tallies.specs.Sums.{onlyIf-most}
 use Rattle.tallies.specs.Stores.{good-of}

@@ -6,7 +6,7 @@ ghost use lib.ListN.{length};
 ghost use Rattle.rules.specs.Limits.{none};
 ghost use Rattle.rules.specs.Calls.{answered, effect, storeOf, Ready, Did};
 ghost use Rattle.rules.specs.declared.Command.the-variants.{Set};
-ghost use Rattle.laws.specs.Commands.{Passes};
+ghost use Rattle.laws.specs.Passes.{Passes};
 ghost use Rattle.falling.specs.Steps.{base};
 ghost use Rattle.editing.specs.Verdicts.{Accepted};
 ghost use Rattle.editing.specs.Targets.{misnames, frees};
