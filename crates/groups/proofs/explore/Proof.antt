@@ -26,7 +26,7 @@ four-requires : tie.Need-four-requires Inv-loop μ-loop
 four-requires c κs = omega (arith, c .before .before .before .before .pre .stands .piece-lt, c .before .before .before .before .pre .lent .links-n)
 
 returns : tie.Need-returns Inv-loop μ-loop
-returns c = came-all (came-one (c .before .before .before .before .before .before .pre) (c .before .four .ensures) (c .if2 .taken) (c .before .before .if1 .taken)) refl (c .before .before .before .before .before .before .pre .live)
+returns c = came-all (came-one (c .before .before .before .before .before .before .pre) (c .before .four .ensures) (c .if2 .taken) (omega (arith, c .before .before .if1 .taken))) refl (c .before .before .before .before .before .before .pre .live)
 
 loop-holds : tie.Need-loop-holds Inv-loop μ-loop
 loop-holds c = came-none
@@ -62,13 +62,13 @@ put-requires : tie.Need-put-requires Inv-loop μ-loop
 put-requires c κs = (omega (arith, c .before .before .before .before .before .before .before .before .before .before .before .before .before .before .pre .stands .piece-lt, c .before .before .before .before .before .before .before .before .before .before .before .before .before .before .pre .lent .work-n, c .before .before .before .before .before .before .before .before .before .loop .inv .len), omega (arith, c .before .before .before .before .before .before .before .before .loop-test .taken))
 
 push-requires : tie.Need-push-requires Inv-loop μ-loop
-push-requires c κs = push-ok (came-going (c .before .before .before .before .before .before .before .before .before .before .before .before .before .loop .inv) (c .before .before .before .before .before .before .before .before .before .before .before .before .before .before .before .before .before .before .pre) (c .before .before .before .before .before .before .before .before .before .before .before .before .before .before .before .before .before .before .pre .live)) (c .before .before .before .before .before .before .before .before .before .before .before .before .loop-test .taken) (c .before .before .before .before .before .before .before .before .before .before .if3 .taken) (c .before .before .before .before .before .before .before .before .if4 .taken) (sym (c .before .before .before .before .before .before .get .ensures) ∙ c .before .before .before .before .before .if5 .taken) (c .before .before .before .put .last .0) (c .before .before .before .put .kept .0)
+push-requires c κs = push-ok (came-going (c .before .before .before .before .before .before .before .before .before .before .before .before .before .loop .inv) (c .before .before .before .before .before .before .before .before .before .before .before .before .before .before .before .before .before .before .pre) (c .before .before .before .before .before .before .before .before .before .before .before .before .before .before .before .before .before .before .pre .live)) (omega (arith, c .before .before .before .before .before .before .before .before .before .before .before .before .loop-test .taken)) (c .before .before .before .before .before .before .before .before .before .before .if3 .taken) (c .before .before .before .before .before .before .before .before .if4 .taken) (sym (c .before .before .before .before .before .before .get .ensures) ∙ c .before .before .before .before .before .if5 .taken) (c .before .before .before .put .last .0) (c .before .before .before .put .kept .0)
 
 add-t32 : tie.Need-add-t32 Inv-loop μ-loop
-add-t32 c = omega (arith, room (came-going (c .before .before .before .before .before .before .before .before .before .before .before .before .before .before .before .before .loop .inv) (c .before .before .before .before .before .before .before .before .before .before .before .before .before .before .before .before .before .before .before .before .before .pre) (c .before .before .before .before .before .before .before .before .before .before .before .before .before .before .before .before .before .before .before .before .before .pre .live)) (c .before .before .before .before .before .before .before .before .before .before .before .before .before .before .before .loop-test .taken) (c .before .before .before .before .before .before .before .before .before .before .before .before .before .if3 .taken) (c .before .before .before .before .before .before .before .before .before .before .before .if4 .taken) (sym (c .before .before .before .before .before .before .before .before .before .get .ensures) ∙ c .before .before .before .before .before .before .before .before .if5 .taken), c .before .before .before .before .before .before .before .before .before .before .before .before .before .before .before .before .before .before .before .before .before .pre .lent .most)
+add-t32 c = omega (arith, room (came-going (c .before .before .before .before .before .before .before .before .before .before .before .before .before .before .before .before .loop .inv) (c .before .before .before .before .before .before .before .before .before .before .before .before .before .before .before .before .before .before .before .before .before .pre) (c .before .before .before .before .before .before .before .before .before .before .before .before .before .before .before .before .before .before .before .before .before .pre .live)) (omega (arith, c .before .before .before .before .before .before .before .before .before .before .before .before .before .before .before .loop-test .taken)) (c .before .before .before .before .before .before .before .before .before .before .before .before .before .if3 .taken) (c .before .before .before .before .before .before .before .before .before .before .before .if4 .taken) (sym (c .before .before .before .before .before .before .before .before .before .get .ensures) ∙ c .before .before .before .before .before .before .before .before .if5 .taken), c .before .before .before .before .before .before .before .before .before .before .before .before .before .before .before .before .before .before .before .before .before .pre .lent .most)
 
 add-t35 : tie.Need-add-t35 Inv-loop μ-loop
-add-t35 c = omega (arith, room (came-going (c .before .before .before .before .before .before .before .before .before .before .before .before .before .before .before .before .loop .inv) (c .before .before .before .before .before .before .before .before .before .before .before .before .before .before .before .before .before .before .before .before .before .pre) (c .before .before .before .before .before .before .before .before .before .before .before .before .before .before .before .before .before .before .before .before .before .pre .live)) (c .before .before .before .before .before .before .before .before .before .before .before .before .before .before .before .loop-test .taken) (c .before .before .before .before .before .before .before .before .before .before .before .before .before .if3 .taken) (c .before .before .before .before .before .before .before .before .before .before .before .if4 .taken) (sym (c .before .before .before .before .before .before .before .before .before .get .ensures) ∙ c .before .before .before .before .before .before .before .before .if5 .taken), c .before .before .before .before .before .before .before .before .before .before .before .before .before .before .before .before .before .before .before .before .before .pre .lent .most)
+add-t35 c = omega (arith, room (came-going (c .before .before .before .before .before .before .before .before .before .before .before .before .before .before .before .before .loop .inv) (c .before .before .before .before .before .before .before .before .before .before .before .before .before .before .before .before .before .before .before .before .before .pre) (c .before .before .before .before .before .before .before .before .before .before .before .before .before .before .before .before .before .before .before .before .before .pre .live)) (omega (arith, c .before .before .before .before .before .before .before .before .before .before .before .before .before .before .before .loop-test .taken)) (c .before .before .before .before .before .before .before .before .before .before .before .before .before .if3 .taken) (c .before .before .before .before .before .before .before .before .before .before .before .if4 .taken) (sym (c .before .before .before .before .before .before .before .before .before .get .ensures) ∙ c .before .before .before .before .before .before .before .before .if5 .taken), c .before .before .before .before .before .before .before .before .before .before .before .before .before .before .before .before .before .before .before .before .before .pre .lent .most)
 
 same-length : tie.Need-same-length Inv-loop μ-loop
 same-length c = c .before .before .push .kept .1 .0 ∙ c .before .before .before .before .before .before .put .kept .0 ∙ c .before .before .before .before .before .before .before .before .before .before .before .before .before .before .before .before .loop .inv .len
@@ -82,14 +82,14 @@ returns-2 c =
     c .before .before .push .ensures ∙ ap (λ (u : List ℕ). pushed (s .n) u (s .a .size) (l .blocks) (s .a .stand) target) (c .before .before .before .before .before .before .put .ensures) in
     came-push (l .inv) (c .before .before .push .kept .1 .0 ∙ c .before .before .before .before .before .before .put .kept .0)
     (subst (λ (u : List ℕ). Stepped (s .n) (s .states .now) (s .links .now) (s .class) (l .work) (at (s .a .size) (s .a .stand) (s .a .piece) (l .blocks) (l .place)) u (at (s .a .size + 1) (s .a .size) target (l .blocks + 1) 0)) (sym e)
-    (step-push (came-going (c .before .before .before .before .before .before .before .before .before .before .before .before .before .before .before .before .loop .inv) (c .before .before .before .before .before .before .before .before .before .before .before .before .before .before .before .before .before .before .before .before .before .pre) (c .before .before .before .before .before .before .before .before .before .before .before .before .before .before .before .before .before .before .before .before .before .pre .live)) (c .before .before .before .before .before .before .before .before .before .before .before .before .before .before .before .loop-test .taken) (c .before .before .before .before .before .before .before .before .before .before .before .before .before .if3 .taken) (c .before .before .before .before .before .before .before .before .before .before .before .if4 .taken) (sym (c .before .before .before .before .before .before .before .before .before .get .ensures) ∙ c .before .before .before .before .before .before .before .before .if5 .taken)))
+    (step-push (came-going (c .before .before .before .before .before .before .before .before .before .before .before .before .before .before .before .before .loop .inv) (c .before .before .before .before .before .before .before .before .before .before .before .before .before .before .before .before .before .before .before .before .before .pre) (c .before .before .before .before .before .before .before .before .before .before .before .before .before .before .before .before .before .before .before .before .before .pre .live)) (omega (arith, c .before .before .before .before .before .before .before .before .before .before .before .before .before .before .before .loop-test .taken)) (c .before .before .before .before .before .before .before .before .before .before .before .before .before .if3 .taken) (c .before .before .before .before .before .before .before .before .before .before .before .if4 .taken) (sym (c .before .before .before .before .before .before .before .before .before .get .ensures) ∙ c .before .before .before .before .before .before .before .before .if5 .taken)))
     (omega arith)
 
 sub-merge : tie.Need-sub-merge Inv-loop μ-loop
 sub-merge c = omega (arith, c .before .before .if5 .left)
 
 merge-requires : tie.Need-merge-requires Inv-loop μ-loop
-merge-requires c κs = blocks-ok (came-going (c .before .before .before .before .before .before .before .before .before .before .loop .inv) (c .before .before .before .before .before .before .before .before .before .before .before .before .before .before .before .pre) (c .before .before .before .before .before .before .before .before .before .before .before .before .before .before .before .pre .live)) (c .before .before .before .before .before .before .before .before .before .loop-test .taken) (c .before .before .before .before .before .before .before .if3 .taken) (c .before .before .before .before .before .if4 .taken)
+merge-requires c κs = blocks-ok (came-going (c .before .before .before .before .before .before .before .before .before .before .loop .inv) (c .before .before .before .before .before .before .before .before .before .before .before .before .before .before .before .pre) (c .before .before .before .before .before .before .before .before .before .before .before .before .before .before .before .pre .live)) (omega (arith, c .before .before .before .before .before .before .before .before .before .loop-test .taken)) (c .before .before .before .before .before .before .before .if3 .taken) (c .before .before .before .before .before .if4 .taken)
 
 loop-less : tie.Need-loop-less Inv-loop μ-loop
 loop-less c = omega (arith, c .before .before .before .before .before .before .before .before .before .before .loop-test .taken)
@@ -99,26 +99,26 @@ loop-again c =
     let s = c .before .before .before .before .before .before .before .before .before .before .before .before .before .before .before .before .args in
     let l = c .before .before .before .before .before .before .before .before .before .before .before .loop in
     came-more (l .inv) refl
-    (step-merge (came-going (c .before .before .before .before .before .before .before .before .before .before .before .loop .inv) (c .before .before .before .before .before .before .before .before .before .before .before .before .before .before .before .before .pre) (c .before .before .before .before .before .before .before .before .before .before .before .before .before .before .before .before .pre .live)) (c .before .before .before .before .before .before .before .before .before .before .loop-test .taken) (c .before .before .before .before .before .before .before .before .if3 .taken) (c .before .before .before .before .before .before .if4 .taken) (λ e. c .before .before .before .if5 .left (c .before .before .before .before .get .ensures ∙ e)) (λ e. c .before .before .if6 .taken (c .before .before .before .before .get .ensures ∙ e)) (c .merge .result)
+    (step-merge (came-going (c .before .before .before .before .before .before .before .before .before .before .before .loop .inv) (c .before .before .before .before .before .before .before .before .before .before .before .before .before .before .before .before .pre) (c .before .before .before .before .before .before .before .before .before .before .before .before .before .before .before .before .pre .live)) (omega (arith, c .before .before .before .before .before .before .before .before .before .before .loop-test .taken)) (c .before .before .before .before .before .before .before .before .if3 .taken) (c .before .before .before .before .before .before .if4 .taken) (λ e. c .before .before .before .if5 .left (c .before .before .before .before .get .ensures ∙ e)) (λ e. c .before .before .if6 .taken (c .before .before .before .before .get .ensures ∙ e)) (c .merge .result)
     (subst (λ (m : ℕ). Cut (s .n) (l .work) (l .blocks) (m - 1) (c .merge .result)) (c .before .before .before .before .get .ensures) (c .merge .ensures)))
 
 loop-less-2 : tie.Need-loop-less-2 Inv-loop μ-loop
 loop-less-2 c = omega (arith, c .before .before .before .before .before .before .before .before .loop-test .taken)
 
 loop-again-2 : tie.Need-loop-again-2 Inv-loop μ-loop
-loop-again-2 c = came-more (c .before .before .before .before .before .before .before .before .before .loop .inv) refl (step-finished (came-going (c .before .before .before .before .before .before .before .before .before .loop .inv) (c .before .before .before .before .before .before .before .before .before .before .before .before .before .before .pre) (c .before .before .before .before .before .before .before .before .before .before .before .before .before .before .pre .live)) (c .before .before .before .before .before .before .before .before .loop-test .taken) (c .before .before .before .before .before .before .if3 .taken) (sym (c .before .before .get .ensures) ∙ c .if6 .left))
+loop-again-2 c = came-more (c .before .before .before .before .before .before .before .before .before .loop .inv) refl (step-finished (came-going (c .before .before .before .before .before .before .before .before .before .loop .inv) (c .before .before .before .before .before .before .before .before .before .before .before .before .before .before .pre) (c .before .before .before .before .before .before .before .before .before .before .before .before .before .before .pre .live)) (omega (arith, c .before .before .before .before .before .before .before .before .loop-test .taken)) (c .before .before .before .before .before .before .if3 .taken) (sym (c .before .before .get .ensures) ∙ c .if6 .left))
 
 loop-less-3 : tie.Need-loop-less-3 Inv-loop μ-loop
 loop-less-3 c = omega (arith, c .before .before .before .before .loop-test .taken)
 
 loop-again-3 : tie.Need-loop-again-3 Inv-loop μ-loop
-loop-again-3 c = came-more (c .before .before .before .before .before .loop .inv) refl (step-class (came-going (c .before .before .before .before .before .loop .inv) (c .before .before .before .before .before .before .before .before .before .before .pre) (c .before .before .before .before .before .before .before .before .before .before .pre .live)) (c .before .before .before .before .loop-test .taken) (c .if4 .left))
+loop-again-3 c = came-more (c .before .before .before .before .before .loop .inv) refl (step-class (came-going (c .before .before .before .before .before .loop .inv) (c .before .before .before .before .before .before .before .before .before .before .pre) (c .before .before .before .before .before .before .before .before .before .before .pre .live)) (omega (arith, c .before .before .before .before .loop-test .taken)) (c .if4 .left))
 
 loop-less-4 : tie.Need-loop-less-4 Inv-loop μ-loop
 loop-less-4 c = omega (arith, c .before .before .loop-test .taken)
 
 loop-again-4 : tie.Need-loop-again-4 Inv-loop μ-loop
-loop-again-4 c = came-more (c .before .before .before .loop .inv) refl (step-none (came-going (c .before .before .before .loop .inv) (c .before .before .before .before .before .before .before .before .pre) (c .before .before .before .before .before .before .before .before .pre .live)) (c .before .before .loop-test .taken) (c .if3 .left))
+loop-again-4 c = came-more (c .before .before .before .loop .inv) refl (step-none (came-going (c .before .before .before .loop .inv) (c .before .before .before .before .before .before .before .before .pre) (c .before .before .before .before .before .before .before .before .pre .live)) (omega (arith, c .before .before .loop-test .taken)) (c .if3 .left))
 
 same-length-2 : tie.Need-same-length-2 Inv-loop μ-loop
 same-length-2 c = c .before .loop .inv .len

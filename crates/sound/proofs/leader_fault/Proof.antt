@@ -6,7 +6,7 @@ use Rattle.sound.proofs.leader_fault.Statement.{statement}
 use Rattle.sound.proofs.leader_fault.Tie as tie
 
 returns : tie.Need-returns
-returns c = fault-none (inl (c .before .if1 .taken, c .if2 .taken))
+returns c = fault-none (inl (c .before .if1 .taken, omega (arith, c .if2 .taken)))
 
 returns-2 : tie.Need-returns-2
 returns-2 c = fault-one (λ x. ⊎-elim (λ y. c .if2 .left (y .1)) (λ y. y .0 (c .before .if1 .taken)) x)

@@ -20,7 +20,7 @@ shared-slice-read-if3 : tie.Need-shared-slice-read-if3
 shared-slice-read-if3 c = search needs
 
 returns-3 : tie.Need-returns-3
-returns-3 c = (says-no (link-low (c .before .before .before .before .before .before .before .args .n) (c .before .before .before .before .before .before .before .args .states .now) (c .before .before .before .before .before .before .before .args .state) (c .before .before .before .before .before .before .before .args .target) (c .before .before .before .if1 .left) (c .if3 .taken)), never, same-none)
+returns-3 c = (says-no (link-low (c .before .before .before .before .before .before .before .args .n) (c .before .before .before .before .before .before .before .args .states .now) (c .before .before .before .before .before .before .before .args .state) (c .before .before .before .before .before .before .before .args .target) (c .before .before .before .if1 .left) (omega (arith, c .if3 .taken))), never, same-none)
 
 add-link-requires : tie.Need-add-link-requires
 add-link-requires c κs = (c .before .before .before .before .before .before .before .before .pre .4, c .before .before .before .before .before .before .before .before .pre .5)
@@ -29,7 +29,7 @@ same-length : tie.Need-same-length
 same-length c = search needs
 
 returns-4 : tie.Need-returns-4
-returns-4 c = (says-yes (link-live (c .before .before .before .before .before .before .before .before .before .before .before .args .n) (c .before .before .before .before .before .before .before .before .before .before .before .args .states .now) (c .before .before .before .before .before .before .before .before .before .before .before .args .state) (c .before .before .before .before .before .before .before .before .before .before .before .args .target) (c .before .before .before .before .before .before .before .if1 .left) (c .before .before .before .before .before .before .if2 .left) (c .before .before .before .before .before .before .before .before .before .before .before .pre .2) (c .before .before .before .before .before .before .before .before .before .before .before .pre .3) (c .before .before .before .before .before .before .before .before .before .before .before .pre .1 (c .before .before .before .before .before .before .before .before .before .before .before .args .target) (c .before .before .before .before .before .before .if2 .left)) (c .before .before .before .before .if3 .left)), (λ _. c .before .before .add-link .ensures .0), c .before .before .add-link .ensures .1)
+returns-4 c = (says-yes (link-live (c .before .before .before .before .before .before .before .before .before .before .before .args .n) (c .before .before .before .before .before .before .before .before .before .before .before .args .states .now) (c .before .before .before .before .before .before .before .before .before .before .before .args .state) (c .before .before .before .before .before .before .before .before .before .before .before .args .target) (c .before .before .before .before .before .before .before .if1 .left) (c .before .before .before .before .before .before .if2 .left) (c .before .before .before .before .before .before .before .before .before .before .before .pre .2) (c .before .before .before .before .before .before .before .before .before .before .before .pre .3) (c .before .before .before .before .before .before .before .before .before .before .before .pre .1 (c .before .before .before .before .before .before .before .before .before .before .before .args .target) (c .before .before .before .before .before .before .if2 .left)) (omega (arith, c .before .before .before .before .if3 .left))), (λ _. c .before .before .add-link .ensures .0), c .before .before .add-link .ensures .1)
 
 pub link-well-spec : {M : Type 1} → statement M
 link-well-spec =
