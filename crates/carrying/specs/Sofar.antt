@@ -1,13 +1,14 @@
 -- A trace that comes in chunks: what is written, the store and the bytes that are kept give the whole output, whatever comes after.
 use mathlib.Core.Path.{_≡_, refl, sym, ap, _∙_}
-use mathlib.Core.List.{List, [], _++_, append-assoc, append-nil}
-use Prim.Native.Nat.{ℕ}
+use mathlib.Core.List.{List, [], _∷_, _++_, append-assoc, append-nil}
+use Prim.Native.Nat.{ℕ, _<_}
 use native.Mathlib.Omega.{arith}
-use lib.ListN.{take, length-take}
+use lib.ListN.{length, take, length-take}
 use lib.Seq.{getD-take}
 use Rattle.rules.specs.Tables.{Store, empty}
-use Rattle.rules.specs.Trace.{linesFrom, linesOf, outputOf, traceAt}
-use Rattle.chunks.specs.Chunks.{Unended, lines-part}
+use Rattle.rules.specs.Trace.{linesFrom, linesOf, outputOf, endLine, traceAt}
+use Rattle.lines.specs.Ending.{Unended}
+use Rattle.chunks.specs.Chunks.{lines-part, lines-last}
 use Rattle.chunks.specs.Short.{output-short}
 
 -- at capacity n `all` is read, `out` is written, and s and the bytes that are kept are left
@@ -32,6 +33,12 @@ pub says-more : {s s′ s″ : Store} {text said left said′ left′ : List ℕ
 says-more {s} {s′} {s″} {text} {said} {left} {said′} {left′} a b = record {
   exact = λ rest.
       a .exact rest ∙ ap (λ (t : List ℕ). said ++ t) (b .exact rest) ∙ sym (append-assoc said said′ (outputOf s″ (linesFrom [] (left′ ++ rest))));
+}
+
+-- a front that is answered whole, before what is left
+pub says-front : {s s′ : Store} {text said : List ℕ} → Says s text said s′ [] → (left : List ℕ) → Says s (text ++ left) said s′ left
+says-front {s} {s′} {text} {said} f left = record {
+  exact = λ rest. ap (λ (t : List ℕ). outputOf s (linesFrom [] t)) (append-assoc text left rest) ∙ f .exact (left ++ rest);
 }
 
 -- of a line without end the first 65 bytes are enough
@@ -87,6 +94,44 @@ sofar-more n s before s′ kept o w = record {
   read = read-said (read-chunk (o .read) (w .chunk)) (w .says);
 }
 
--- at the end all that is written is the output of all that was read
-pub sofar-end : (n : ℕ) (s : Store) (kept last : List ℕ) (o : Sofar n s kept) → last ≡ outputOf s (linesFrom [] kept) → traceAt n (o .all) ≡ o .said ++ last
-sofar-end n s kept last o e = read-end (o .read) ∙ ap (λ (t : List ℕ). o .said ++ t) (sym e)
+-- ---- the end of the input: a last line without its end gets one
+
+abbrev pub closing : List ℕ → List ℕ
+closing [] = []
+closing (b ∷ bs) = (b ∷ bs) ++ (10 ∷ [])
+
+pub closing-some : (l : List ℕ) → 0 < length l → closing l ≡ l ++ (10 ∷ [])
+closing-some [] h = absurd (omega arith)
+closing-some (b ∷ bs) h = refl
+
+-- what was kept is answered, and only the last line of the output is left
+pub record Over (s : Store) (kept : List ℕ) (s′ : Store) : Type 0 where
+  pub said : List ℕ
+  pub is : outputOf s (linesFrom [] kept) ≡ said ++ endLine s′
+
+closing-same : (s : Store) (l : List ℕ) → Unended l → outputOf s (linesFrom [] (closing l)) ≡ outputOf s (linesFrom [] l)
+closing-same s [] u = refl
+closing-same s (b ∷ bs) u = ap (outputOf s) (lines-last (b ∷ bs) u (omega arith))
+
+none-left : (s : Store) → outputOf s (linesFrom [] ([] ++ [])) ≡ endLine s
+unfolding outputOf linesFrom
+none-left s = refl
+
+pub over-is : (s : Store) (kept : List ℕ) (s′ : Store) (said : List ℕ) → Unended kept → Says s (closing kept) said s′ [] → Over s kept s′
+over-is s kept s′ said u f = record {
+  said = said;
+  is = sym (closing-same s kept u) ∙ ap (λ (t : List ℕ). outputOf s (linesFrom [] t)) (sym (append-nil (closing kept))) ∙ f .exact [] ∙ ap (λ (t : List ℕ). said ++ t) (none-left s′);
+}
+
+-- all that was read is answered by what was written, but for the last line
+pub record Finished (n : ℕ) (s : Store) : Type 0 where
+  pub all : List ℕ
+  pub said : List ℕ
+  pub is : traceAt n all ≡ said ++ endLine s
+
+pub sofar-over : (n : ℕ) (s : Store) (kept : List ℕ) (s′ : Store) → Sofar n s kept → Over s kept s′ → Finished n s′
+sofar-over n s kept s′ o v = record {
+  all = o .all;
+  said = o .said ++ v .said;
+  is = read-end (o .read) ∙ ap (λ (t : List ℕ). o .said ++ t) (v .is) ∙ sym (append-assoc (o .said) (v .said) (endLine s′));
+}

@@ -1,5 +1,5 @@
 -- The lines of a text that comes in chunks: feeding the chunks one after another, with the unfinished line carried, gives the lines of the whole.
-use mathlib.Core.Path.{_≡_, refl, _∙_}
+use mathlib.Core.Path.{_≡_, refl, sym, ap, _∙_}
 use mathlib.Core.Bool.{Bool, true, false}
 use mathlib.Core.List.{List, [], _∷_, _++_, append-assoc, append-nil}
 use Prim.Native.Nat.{ℕ, suc, _<_}
@@ -9,6 +9,7 @@ use lib.Dec.{eqb}
 use lib.ListN.{length, getD}
 use Rattle.rules.specs.Tests.{pick}
 use Rattle.rules.specs.Trace.{lastLine, linesFrom, linesOf}
+use Rattle.lines.specs.Ending.{Unended}
 
 -- the lines that a chunk finishes, of which the first starts with `begun`
 unfoldable pub finished : List ℕ → List ℕ → List (List ℕ)
@@ -55,10 +56,6 @@ lines-of-chunks chunks = lines-fed [] chunks
 
 -- ---- one line at a time
 
--- no byte of it ends a line
-abbrev pub Unended : List ℕ → Type 0
-Unended part = (i : ℕ) → i < length part → getD part i 0 ≡ 10 → ⊥
-
 pub lines-part : (begun part rest : List ℕ) → Unended part → linesFrom begun (part ++ rest) ≡ linesFrom (begun ++ part) rest
 unfolding linesFrom
 lines-part begun [] rest h = rw (append-nil begun)
@@ -69,3 +66,14 @@ lines-part begun (b ∷ bs) rest h =
 pub lines-end : (begun rest : List ℕ) → linesFrom begun (10 ∷ rest) ≡ begun ∷ linesFrom [] rest
 unfolding linesFrom
 lines-end begun rest = refl
+
+-- a last line without its end counts as one with it
+pub lines-last : (text : List ℕ) → Unended text → 0 < length text → linesFrom [] (text ++ (10 ∷ [])) ≡ linesFrom [] text
+lines-last text u h = lines-part [] text (10 ∷ []) u ∙ lines-end text [] ∙ none-left ∙ sym (ap (linesFrom []) (sym (append-nil text)) ∙ lines-part [] text [] u ∙ only text h)
+  where
+    none-left : text ∷ linesFrom [] [] ≡ text ∷ []
+    none-left = unfold linesFrom in refl
+
+    only : (t : List ℕ) → 0 < length t → linesFrom t [] ≡ t ∷ []
+    only [] p = absurd (omega arith)
+    only (b ∷ bs) p = unfold linesFrom in refl

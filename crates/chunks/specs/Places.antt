@@ -8,7 +8,7 @@ use lib.ListN.{length, getD, take, drop, length-drop}
 use lib.Seq.{take-suc, take-add, take-length, getD-take, getD-drop, length-take-le}
 use Rattle.rules.specs.Tables.{Store}
 use Rattle.rules.specs.Trace.{says, answerTo, storeAfter}
-use Rattle.chunks.specs.Chunks.{Unended}
+use Rattle.lines.specs.Ending.{Unended}
 use Rattle.chunks.specs.Reading.{Reading, part-read, part-carried, line-read}
 
 -- the bytes from `at` to before `end`

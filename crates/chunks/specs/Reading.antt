@@ -6,7 +6,8 @@ use native.Mathlib.Omega.{arith}
 use lib.ListN.{length, take}
 use Rattle.rules.specs.Tables.{Store, empty}
 use Rattle.rules.specs.Trace.{linesFrom, linesOf, says, answerTo, storeAfter, endLine, outputOf, traceAt}
-use Rattle.chunks.specs.Chunks.{Unended, lines-part, lines-end}
+use Rattle.lines.specs.Ending.{Unended}
+use Rattle.chunks.specs.Chunks.{lines-part, lines-end}
 use Rattle.chunks.specs.Short.{output-short}
 
 -- what is left at the end of the text

@@ -1,3 +1,4 @@
 pub mod Poured
+pub mod Last
 pub mod Lent
 pub mod Begun

@@ -1,64 +1,79 @@
--- A lent trace: its output is poured into the room line by line, while it fits.
+-- A lent trace: its output is poured into the room part by part, while it fits.
 use mathlib.Core.Path.{_≡_, refl, sym, ap, _∙_, subst}
 use mathlib.Core.Bool.{Bool, true, false}
 use mathlib.Core.List.{List, [], _∷_, _++_, append-nil, append-assoc}
-use Prim.Native.Nat.{ℕ, _+_, _-_, _≤_, _<_, _^_}
+use Prim.Native.Nat.{ℕ, _+_, _-_, _≤_, _<_}
 use native.Mathlib.Omega.{arith}
 use native.Mathlib.Numerals.{add-one}
-use lib.Dec.{T, leb}
-use lib.ListN.{length, getD, take, drop, set, replicate, length-append, length-set, length-replicate, getD-replicate, drop-of-length-le}
-use lib.Seq.{length-take-le, paste, paste-zero, paste-suc, take-paste, length-paste, take-all}
-use Rattle.rules.specs.Tests.{pick}
+use lib.ListN.{length, getD, take, drop, set, replicate, length-append, length-set, length-replicate, drop-of-length-le}
+use lib.Seq.{length-take-le, paste, paste-zero, paste-suc, take-paste, take-all}
 use Rattle.rules.specs.Tables.{Store}
-use Rattle.rules.specs.Trace.{linesFrom, says, answerTo, storeAfter, outputOf}
-use Rattle.answers.specs.Wrote.{Wrote}
-use Rattle.reader.specs.Answered.{Stands, Answered}
-use Rattle.reader.specs.Fed.{LineEnd, NoEnd, wrote-front, one-line}
+use Rattle.rules.specs.Trace.{linesFrom, outputOf}
+use Rattle.reader.specs.Answered.{Stands}
+use Rattle.reader.specs.Fed.{Feeding, fed-inside, fed-exact}
 
--- the text up to `at` is answered by the first `written` bytes of the room
-pub record Pouring (n : ℕ) (s₀ : Store) (text : List ℕ) (s : Store) (l w room : List ℕ) (at written low : ℕ) : Type 0 where
+-- from a room that holds `start` bytes on, the text up to `at` is answered by the first `written` bytes of the room
+pub record Pouring (n : ℕ) (s₀ : Store) (text room₀ : List ℕ) (start : ℕ) (s : Store) (l w room : List ℕ) (at written low : ℕ) : Type 0 where
   pub inside : at ≤ length text
   pub place : written ≤ length room
   pub stands : Stands n s l w low
-  pub exact : outputOf s₀ (linesFrom [] text) ≡ take written room ++ outputOf s (linesFrom [] (drop at text ++ []))
+  pub exact : (rest : List ℕ) → take start room₀ ++ outputOf s₀ (linesFrom [] (text ++ rest)) ≡ take written room ++ outputOf s (linesFrom [] (drop at text ++ rest))
 
--- the room is too small for the output, or all whole lines are answered
-pub record Poured (n : ℕ) (s₀ : Store) (text : List ℕ) (s : Store) (l w room : List ℕ) (full : Bool) (at written low : ℕ) : Type 0 where
-  pub yes : full ≡ true → length room < length (outputOf s₀ (linesFrom [] text))
-  pub no : full ≡ false → Pouring n s₀ text s l w room at written low × NoEnd text at (length text)
+-- the whole text is answered
+pub record Pours (n : ℕ) (s₀ : Store) (text room₀ : List ℕ) (start : ℕ) (s : Store) (l w room : List ℕ) (written low : ℕ) : Type 0 where
+  pub place : written ≤ length room
+  pub stands : Stands n s l w low
+  pub exact : (rest : List ℕ) → take start room₀ ++ outputOf s₀ (linesFrom [] (text ++ rest)) ≡ take written room ++ outputOf s (linesFrom [] rest)
+
+-- the room is too small for the output, or the whole text is answered
+pub record Poured (n : ℕ) (s₀ : Store) (text room₀ : List ℕ) (start : ℕ) (s : Store) (l w room : List ℕ) (full : Bool) (written low : ℕ) : Type 0 where
+  pub yes : full ≡ true → (rest : List ℕ) → length room₀ < start + length (outputOf s₀ (linesFrom [] (text ++ rest)))
+  pub no : full ≡ false → Pours n s₀ text room₀ start s l w room written low
 
 -- ---- laws
 
-pub pouring-none : (n : ℕ) (s : Store) (text l w room : List ℕ) (from : ℕ) → Stands n s l w from → Pouring n s text s l w room 0 0 from
-pouring-none n s text l w room from st = record { inside = omega arith; place = omega arith; stands = st; exact = ap (λ (t : List ℕ). outputOf s (linesFrom [] t)) (sym (append-nil text)) }
+-- a test is not both
+pub not-both : {A : Type 0} → true ≡ false → A
+not-both e = absurd (let z : _≡_ {A = ℕ} 0 1 = cc e in omega arith)
 
-module _ (text : List ℕ) (at end : ℕ) (e : LineEnd text at end) (h : end < length text) (n : ℕ) (s₀ s : Store) (l w room : List ℕ) (written low : ℕ) (f : Pouring n s₀ text s l w room at written low) (out : List ℕ) (s′ : Store) (l′ w′ out′ : List ℕ) (k low′ : ℕ)
-    (a : Answered n s (says (take (end - at) (drop at text))) out 0 s′ l′ w′ out′ k low′) (fits : k ≤ length out) where
-  abbrev line : List ℕ
-  line = take (end - at) (drop at text)
+pub pouring-none : (n : ℕ) (s : Store) (text l w room : List ℕ) (start from : ℕ) → start ≤ length room → Stands n s l w from → Pouring n s text room start s l w room 0 start from
+pouring-none n s text l w room start from h st = record { inside = omega arith; place = h; stands = st; exact = λ rest. refl }
 
-  bytes : take k out′ ≡ answerTo s (says line)
-  bytes = wrote-front out (answerTo s (says line)) out′ 0 k (a .wrote) fits
-
-  whole : outputOf s₀ (linesFrom [] text) ≡ take written room ++ (take k out′ ++ outputOf s′ (linesFrom [] (drop (end + 1) text ++ [])))
-  whole = f .exact ∙ ap (λ (t : List ℕ). take written room ++ t) (one-line text at end e h s [] ∙ ap (λ (t : List ℕ). t ++ outputOf (storeAfter s (says line)) (linesFrom [] (drop (end + 1) text ++ []))) (sym bytes) ∙ ap (λ (t : Store). take k out′ ++ outputOf t (linesFrom [] (drop (end + 1) text ++ []))) (sym (a .store)))
-
-  -- the line does not fit
-  pub too-long : length out′ ≡ length out → length room < written + k → length room < length (outputOf s₀ (linesFrom [] text))
-  too-long len x =
-      let p : length (take written room) ≡ written = length-take-le written room (f .place) in
-      let q : length (take k out′) ≡ k = length-take-le k out′ (omega arith) in
-      let y = ap length whole in
-      omega (arith, length-append (take written room) (take k out′ ++ outputOf s′ (linesFrom [] (drop (end + 1) text ++ []))), length-append (take k out′) (outputOf s′ (linesFrom [] (drop (end + 1) text ++ []))))
-
-  -- it does
-  pub pouring-more : (room′ : List ℕ) → length room′ ≡ length room → written + k ≤ length room → k ≤ length out′ → room′ ≡ paste room written out′ k → Pouring n s₀ text s′ l′ w′ room′ (end + 1) (written + k) low′
-  pouring-more room′ len x y wr = record {
-    inside = omega arith;
-    place = omega arith;
-    stands = a .stands;
-    exact = whole ∙ sym (append-assoc (take written room) (take k out′) (outputOf s′ (linesFrom [] (drop (end + 1) text ++ [])))) ∙ ap (λ (t : List ℕ). t ++ outputOf s′ (linesFrom [] (drop (end + 1) text ++ []))) (sym (ap (take (written + k)) wr ∙ take-paste room written out′ k (omega arith) y));
+module _ (n : ℕ) (s₀ : Store) (text room₀ : List ℕ) (start : ℕ) (s : Store) (l w room : List ℕ) (at written low : ℕ) (f : Pouring n s₀ text room₀ start s l w room at written low) (same : length room ≡ length room₀) where
+  -- all of it
+  pub pouring-all : length text ≤ at → Poured n s₀ text room₀ start s l w room false written low
+  pouring-all h = record {
+    yes = λ e. not-both (sym e);
+    no = λ _. record {
+      place = f .place;
+      stands = f .stands;
+      exact = λ rest. f .exact rest ∙ ap (λ (t : List ℕ). take written room ++ outputOf s (linesFrom [] (t ++ rest))) (drop-of-length-le text {i = at} h);
+    };
   }
+
+  module _ (less : at < length text) (s′ : Store) (l′ w′ out : List ℕ) (taken k low′ : ℕ) (g : Feeding n s (take (length text - at) (drop at text)) s′ l′ w′ out taken k low′) where
+    whole : (rest : List ℕ) → take start room₀ ++ outputOf s₀ (linesFrom [] (text ++ rest)) ≡ take written room ++ (take k out ++ outputOf s′ (linesFrom [] (drop (at + taken) text ++ rest)))
+    whole rest = f .exact rest ∙ ap (λ (t : List ℕ). take written room ++ t) (fed-exact text at less n s s′ l′ w′ out taken k low′ g rest)
+
+    -- these answers do not fit
+    pub pouring-over : start ≤ length room₀ → length room < written + k → (s″ : Store) (l″ w″ room″ : List ℕ) (x y : ℕ) → Poured n s₀ text room₀ start s″ l″ w″ room″ true x y
+    pouring-over h over s″ l″ w″ room″ x y = record {
+      yes = λ _ rest.
+          let o : List ℕ = outputOf s′ (linesFrom [] (drop (at + taken) text ++ rest)) in
+          let e = ap length (whole rest) in
+          omega (arith, length-append (take start room₀) (outputOf s₀ (linesFrom [] (text ++ rest))), length-append (take written room) (take k out ++ o), length-append (take k out) o, length-take-le start room₀ h, length-take-le written room (f .place), length-take-le k out (g .room));
+      no = λ e. not-both e;
+    }
+
+    -- they do
+    pub pouring-more : (room′ : List ℕ) → length room′ ≡ length room → written + k ≤ length room → room′ ≡ paste room written out k → Pouring n s₀ text room₀ start s′ l′ w′ room′ (at + taken) (written + k) low′
+    pouring-more room′ len x wr = record {
+      inside = fed-inside text at less n s s′ l′ w′ out taken k low′ g;
+      place = omega arith;
+      stands = g .stands;
+      exact = λ rest. whole rest ∙ sym (append-assoc (take written room) (take k out) (outputOf s′ (linesFrom [] (drop (at + taken) text ++ rest))))
+          ∙ ap (λ (t : List ℕ). t ++ outputOf s′ (linesFrom [] (drop (at + taken) text ++ rest))) (sym (ap (take (written + k)) wr ∙ take-paste room written out k (f .place) (g .room)));
+    }
 
 -- ---- copying and clearing
 
@@ -82,7 +97,3 @@ cleared d at a h p =
     let n : length z ≡ length d - at = length-replicate {A = ℕ} (length d - at) 0 in
     p .is ∙ ap (λ (t : List ℕ). (take at d ++ t) ++ drop (at + (length d - at)) d) (take-all (length d - at) z (omega arith))
     ∙ ap (λ (t : List ℕ). (take at d ++ z) ++ t) (drop-of-length-le d {i = at + (length d - at)} (omega arith)) ∙ append-nil (take at d ++ z)
-
--- a test is not both
-pub not-both : {A : Type 0} → true ≡ false → A
-not-both e = absurd (let z : _≡_ {A = ℕ} 0 1 = cc e in omega arith)

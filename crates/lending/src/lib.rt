@@ -6,8 +6,10 @@ ghost use lib.ListN.{length, take, replicate};
 ghost use lib.Seq.{paste};
 ghost use Rattle.rules.specs.Calls.{storeOf};
 ghost use Rattle.rules.specs.Trace.{linesFrom, outputOf, inRoom, lentTrace};
+ghost use Rattle.lines.specs.Ending.{Unended, Closed};
 ghost use Rattle.reader.specs.Answered.{Stands};
 ghost use Rattle.lending.specs.Poured.{Poured};
+ghost use Rattle.lending.specs.Last.{Ended};
 ghost use Rattle.lending.specs.Lent.{given};
 use rules::Store;
 
@@ -36,15 +38,14 @@ fn clear_from(room: &mut [u8], at: usize)
     }
 }
 
-// How far a text was answered into the room, or that the room is too small.
-pub struct Place {
-    pub full: bool,
-    pub at: usize,
-    pub written: usize,
-    pub from: usize,
+// How much of the room is written, or that the room is too small.
+struct Place {
+    full: bool,
+    written: usize,
+    from: usize,
 }
 
-// Answers the whole lines of a text into the room, while they fit.
+// Answers a text whose last byte is 10 into the room behind what is written there, while it fits.
 fn pour(
     text: &[u8],
     n: usize,
@@ -58,26 +59,18 @@ fn pour(
     from: usize,
     out: &mut [u8],
     room: &mut [u8],
+    start: usize,
 ) -> Place
-    requires { ⌜ Stands n (storeOf n (now states) (now links) (now leaders) (now holds) (now counts)) (now list) (now work) from × (6272 ≤ length (now out)) ⌝ }
-    ensures { λ r. ⌜ Poured n (storeOf n (now (states .entry)) (now (links .entry)) (now (leaders .entry)) (now (holds .entry)) (now (counts .entry))) (now (text .entry))
-        (storeOf n (now (states .exit)) (now (links .exit)) (now (leaders .exit)) (now (holds .exit)) (now (counts .exit))) (now (list .exit)) (now (work .exit)) (now (room .exit)) (r .full) (r .at) (r .written) (r .from) ⌝ }
+    requires { ⌜ Stands n (storeOf n (now states) (now links) (now leaders) (now holds) (now counts)) (now list) (now work) from × Closed (now text) × (6208 ≤ length (now out)) × (start ≤ length (now room)) ⌝ }
+    ensures { λ r. ⌜ Poured n (storeOf n (now (states .entry)) (now (links .entry)) (now (leaders .entry)) (now (holds .entry)) (now (counts .entry))) (now (text .entry)) (now (room .entry)) start
+        (storeOf n (now (states .exit)) (now (links .exit)) (now (leaders .exit)) (now (holds .exit)) (now (counts .exit))) (now (list .exit)) (now (work .exit)) (now (room .exit)) (r .full) (r .written) (r .from) ⌝ }
 {
     let mut at = 0;
-    let mut written = 0;
+    let mut written = start;
     let mut low = from;
-    while at <= text.len() {
-        let end = reader::line_end(text, at);
-        if end == text.len() {
-            return Place {
-                full: false,
-                at: at,
-                written: written,
-                from: low,
-            };
-        }
-        let step = reader::answer(
-            &text[at..end],
+    while at < text.len() {
+        let fed = reader::feed(
+            &text[at..],
             n,
             states,
             links,
@@ -88,28 +81,77 @@ fn pour(
             work,
             low,
             out,
-            0,
         );
-        let k = step.at;
+        let k = fed.written;
         if room.len() - written < k {
             return Place {
                 full: true,
-                at: at,
                 written: written,
                 from: low,
             };
         }
         copy(room, written, out, k);
         written += k;
-        at = end + 1;
-        low = step.from;
+        at += fed.taken;
+        low = fed.from;
     }
     Place {
-        full: true,
-        at: at,
+        full: false,
         written: written,
         from: low,
     }
+}
+
+// Answers a last line without its end, if it has a byte: its first 65 bytes, with byte 10 behind them.
+fn pour_last(
+    text: &[u8],
+    n: usize,
+    states: &mut [u8],
+    links: &mut [u16],
+    leaders: &mut [u16],
+    holds: &mut [u16],
+    counts: &mut [u32],
+    list: &mut [u16],
+    work: &mut [u32],
+    from: usize,
+    out: &mut [u8],
+    room: &mut [u8],
+    start: usize,
+) -> Place
+    requires { ⌜ Stands n (storeOf n (now states) (now links) (now leaders) (now holds) (now counts)) (now list) (now work) from × Unended (now text) × (6208 ≤ length (now out)) × (start ≤ length (now room)) ⌝ }
+    ensures { λ r. ⌜ Ended n (storeOf n (now (states .entry)) (now (links .entry)) (now (leaders .entry)) (now (holds .entry)) (now (counts .entry))) (now (text .entry)) (now (room .entry)) start
+        (storeOf n (now (states .exit)) (now (links .exit)) (now (leaders .exit)) (now (holds .exit)) (now (counts .exit))) (now (list .exit)) (now (work .exit)) (now (room .exit)) (r .full) (r .written) (r .from) ⌝ }
+{
+    if text.len() == 0 {
+        return Place {
+            full: false,
+            written: start,
+            from: from,
+        };
+    }
+    let mut size = text.len();
+    if 65 < size {
+        size = 65;
+    }
+    let mut last = [0u8; 66];
+    copy(&mut last, 0, text, size);
+    last[size] = 10;
+    let end = size + 1;
+    pour(
+        &last[..end],
+        n,
+        states,
+        links,
+        leaders,
+        holds,
+        counts,
+        list,
+        work,
+        from,
+        out,
+        room,
+        start,
+    )
 }
 
 // The output's length, and the room holds the output, then zeros; or ROOM, and the room is all zeros.
@@ -127,11 +169,12 @@ pub fn lend(
     out: &mut [u8],
     room: &mut [u8],
 ) -> u64
-    requires { ⌜ Stands n (storeOf n (now states) (now links) (now leaders) (now holds) (now counts)) (now list) (now work) from × (6272 ≤ length (now out)) ⌝ }
+    requires { ⌜ Stands n (storeOf n (now states) (now links) (now leaders) (now holds) (now counts)) (now list) (now work) from × (6208 ≤ length (now out)) ⌝ }
     ensures { λ r. ⌜ given r (now (room .exit)) ≡ inRoom (outputOf (storeOf n (now (states .entry)) (now (links .entry)) (now (leaders .entry)) (now (holds .entry)) (now (counts .entry))) (linesFrom [] (now (text .entry)))) (now (room .entry)) ⌝ }
 {
-    let place = pour(
-        text,
+    let whole = reader::whole(text);
+    let lines = pour(
+        &text[..whole],
         n,
         states,
         links,
@@ -143,17 +186,17 @@ pub fn lend(
         from,
         out,
         room,
+        0,
     );
-    let full = place.full;
-    let at = place.at;
-    let written = place.written;
-    let low = place.from;
+    let full = lines.full;
+    let written = lines.written;
+    let low = lines.from;
     if full {
         clear_from(room, 0);
         return 9223372036854775819;
     }
-    let k = reader::end(
-        &text[at..],
+    let place = pour_last(
+        &text[whole..],
         n,
         states,
         links,
@@ -164,13 +207,22 @@ pub fn lend(
         work,
         low,
         out,
+        room,
+        written,
     );
-    if room.len() - written < k {
+    let over = place.full;
+    let at = place.written;
+    if over {
         clear_from(room, 0);
         return 9223372036854775819;
     }
-    copy(room, written, out, k);
-    let size = written + k;
+    let k = reader::close(n, states, links, leaders, holds, counts, out, 0);
+    if room.len() - at < k {
+        clear_from(room, 0);
+        return 9223372036854775819;
+    }
+    copy(room, at, out, k);
+    let size = at + k;
     clear_from(room, size);
     size as u64
 }

@@ -21,8 +21,7 @@ abbrev pub wordOf : List ℕ → Taken → Word
 wordOf line (Number p c) = is p (drop (c .at) line)
 wordOf line Bad = bad
 
--- a word after which nothing is left
-abbrev pub alone : Word → Word
-alone (is p []) = is p []
-alone (is p (b ∷ bs)) = bad
-alone bad = bad
+-- the place after the word
+abbrev pub placeOf : Taken → ℕ
+placeOf (Number p c) = c .at
+placeOf Bad = 0

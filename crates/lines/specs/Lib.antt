@@ -1,3 +1,5 @@
 pub mod Cursor
 pub mod Numbers
 pub mod Says
+pub mod Ending
+pub mod Fronts

@@ -13,7 +13,7 @@ use lib.Seq.{drop-cons}
 use Rattle.rules.specs.Tests.{_&_, pick}
 use Rattle.rules.specs.Trace.{Word, is, bad, isDigit, digits, decimalFrom, numberOfDigits, number}
 use Rattle.lines.specs.declared.Taken.the-variants.{Number, Bad}
-use Rattle.lines.specs.Cursor.{digitOf, takenOf, wordOf}
+use Rattle.lines.specs.Cursor.{digitOf, takenOf, wordOf, placeOf}
 
 -- a number of which k digits of value v are read, and the d digits that a text starts with are not
 unfoldable pub afterDigits : ℕ → ℕ → ℕ → List ℕ → Word
@@ -54,11 +54,6 @@ module _ (k v b : ℕ) (bs : List ℕ) where
   unfolding numberAfter afterDigits digits decimalFrom
   cons-other l h = rw (other-test b l, add-zero k, le-leb k 5 h)
 
--- so does the end of the line
-none-left : (k v : ℕ) → k ≤ 5 → numberAfter k v [] ≡ pick (leb 1 k & leb v 65535) (is v []) bad
-unfolding numberAfter afterDigits digits decimalFrom
-none-left k v h = rw (add-zero k, le-leb k 5 h)
-
 -- more than 5 digits are no number
 too-many : (k v : ℕ) (text : List ℕ) → 5 < k → numberAfter k v text ≡ bad
 unfolding numberAfter afterDigits
@@ -84,8 +79,20 @@ module _ (line : List ℕ) (k v i : ℕ) where
   digit-stop l h m =
       rw (finished-word line k v i, drop-cons line i 0 l) (cons-other k v (getD line i 0) (drop (suc i) line) h m)
 
-  pub digit-end : length line ≤ i → k ≤ 5 → numberAfter k v (drop i line) ≡ wordOf line (takenOf v k i)
-  digit-end l m = rw (finished-word line k v i, drop-of-length-le line l) (none-left k v m)
+-- a digit ends no line
+pub digit-unended : (b : ℕ) → digitOf b < 10 → b ≡ 10 → ⊥
+digit-unended b l e = by-test (isDigit b) (digit-test b l) e
+  where
+    by-test : (t : Bool) → isDigit b ≡ true → b ≡ 10 → ⊥
+    by-test t h x = let z : isDigit 10 ≡ true = rw x at h in let y : _≡_ {A = ℕ} 0 1 = cc z in omega arith
+
+-- the number that ends at a place leaves it inside the text
+pub finished-place : (v k i n : ℕ) → i < n → placeOf (takenOf v k i) < n
+finished-place v k i n h = by-test (leb 1 k & leb v 65535)
+  where
+    by-test : (t : Bool) → placeOf (pick t (Number v (record { at = i })) Bad) < n
+    by-test true = h
+    by-test false = omega arith
 
 -- the value of at most 5 digits
 pub value-more : (v k d : ℕ) → v < 10 ^ k → d < 10 → v * 10 + d < 10 ^ (k + 1)

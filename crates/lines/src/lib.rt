@@ -1,13 +1,14 @@
-// One line of a trace, read from left to right, one word at a time.
+// One line of a text whose last byte is 10, read from left to right, one word at a time.
 ghost use mathlib.Core.Path.{_≡_};
-ghost use lib.ListN.{drop};
-ghost use Rattle.rules.specs.Trace.{number, word, target, targetWord, setPiece, says};
-ghost use Rattle.lines.specs.Cursor.{digitOf, takenOf, wordOf, alone};
+ghost use Prim.Native.Nat.{_≤_, _<_};
+ghost use lib.ListN.{length, drop};
+ghost use Rattle.rules.specs.Trace.{number, word, target, targetWord};
+ghost use Rattle.lines.specs.Cursor.{digitOf, takenOf, wordOf, placeOf};
+ghost use Rattle.lines.specs.Ending.{Closed, Reads, frontOf, nextOf, setPieceBy, namedBy};
 use rules::Command;
-use rules::Line;
 use rules::Store;
 
-// The place in a line up to which it is read.
+// The place in a text up to which it is read.
 pub struct Cursor {
     pub at: usize,
 }
@@ -18,6 +19,14 @@ pub enum Taken {
     Number(u16, Cursor),
     // No word stands there.
     Bad,
+}
+
+// What stands at a place of a text.
+pub enum Found {
+    // A right line: what it says, with the place behind its end.
+    Right(Command, usize),
+    // No right line.
+    Other,
 }
 
 // A digit's value, and 10 for any other byte.
@@ -49,144 +58,124 @@ fn finished(v: u32, k: usize, at: usize) -> Taken
 
 impl Cursor {
     // The number at the cursor.
-    pub fn number(self, line: &[u8]) -> Taken
-        ensures { λ r. ⌜ wordOf (now (line .entry)) r ≡ number (drop (self .at) (now (line .entry))) ⌝ }
+    pub fn number(self, text: &[u8]) -> Taken
+        requires { ⌜ (self .at < length (now text)) × Closed (now text) ⌝ }
+        ensures { λ r. ⌜ (wordOf (now (text .entry)) r ≡ number (drop (self .at) (now (text .entry)))) × (placeOf r < length (now (text .entry))) ⌝ }
     {
         let at = self.at;
         let mut v: u32 = 0;
-        let mut i = at;
-        while i < line.len() {
-            let d = digit(line[i]);
+        let mut k = 0;
+        while k < 5 {
+            let d = digit(text[at + k]);
             if 9 < d {
-                return finished(v, i - at, i);
-            }
-            if 4 < i - at {
-                return Taken::Bad;
+                return finished(v, k, at + k);
             }
             v = v * 10 + d;
-            i += 1;
+            k += 1;
         }
-        finished(v, i - at, i)
+        let d = digit(text[at + k]);
+        if 9 < d {
+            return finished(v, k, at + k);
+        }
+        Taken::Bad
     }
 
     // Exactly one space, then a number.
-    pub fn word(self, line: &[u8]) -> Taken
-        ensures { λ r. ⌜ wordOf (now (line .entry)) r ≡ word (drop (self .at) (now (line .entry))) ⌝ }
+    pub fn word(self, text: &[u8]) -> Taken
+        requires { ⌜ (self .at < length (now text)) × Closed (now text) ⌝ }
+        ensures { λ r. ⌜ (wordOf (now (text .entry)) r ≡ word (drop (self .at) (now (text .entry)))) × (placeOf r < length (now (text .entry))) ⌝ }
     {
         let at = self.at;
-        if at < line.len() {
-            if line[at] == 32 {
-                return Cursor { at: at + 1 }.number(line);
-            }
-            return Taken::Bad;
+        if text[at] == 32 {
+            return Cursor { at: at + 1 }.number(text);
         }
         Taken::Bad
     }
 
     // A number, or `-` for none.
-    pub fn target(self, line: &[u8]) -> Taken
-        ensures { λ r. ⌜ wordOf (now (line .entry)) r ≡ target (drop (self .at) (now (line .entry))) ⌝ }
+    pub fn target(self, text: &[u8]) -> Taken
+        requires { ⌜ (self .at < length (now text)) × Closed (now text) ⌝ }
+        ensures { λ r. ⌜ (wordOf (now (text .entry)) r ≡ target (drop (self .at) (now (text .entry)))) × (placeOf r < length (now (text .entry))) ⌝ }
     {
         let at = self.at;
-        if at < line.len() {
-            if line[at] == 45 {
-                return Taken::Number(Store::NONE, Cursor { at: at + 1 });
-            }
-            return Cursor { at: at }.number(line);
+        if text[at] == 45 {
+            return Taken::Number(Store::NONE, Cursor { at: at + 1 });
         }
-        Taken::Bad
+        Cursor { at: at }.number(text)
     }
 
     // Exactly one space, then a target.
-    pub fn target_word(self, line: &[u8]) -> Taken
-        ensures { λ r. ⌜ wordOf (now (line .entry)) r ≡ targetWord (drop (self .at) (now (line .entry))) ⌝ }
+    pub fn target_word(self, text: &[u8]) -> Taken
+        requires { ⌜ (self .at < length (now text)) × Closed (now text) ⌝ }
+        ensures { λ r. ⌜ (wordOf (now (text .entry)) r ≡ targetWord (drop (self .at) (now (text .entry)))) × (placeOf r < length (now (text .entry))) ⌝ }
     {
         let at = self.at;
-        if at < line.len() {
-            if line[at] == 32 {
-                return Cursor { at: at + 1 }.target(line);
-            }
-            return Taken::Bad;
+        if text[at] == 32 {
+            return Cursor { at: at + 1 }.target(text);
         }
         Taken::Bad
     }
 }
 
-// The one word of a line `f P`, `a P`, `r P`, `b P` or `l P`.
-fn one_word(line: &[u8]) -> Taken
-    ensures { λ r. ⌜ wordOf (now (line .entry)) r ≡ alone (word (drop 1 (now (line .entry)))) ⌝ }
+// A line `f P`, `a P`, `r P`, `b P` or `l P` behind its first byte.
+fn name_line(b: u8, text: &[u8], at: usize) -> Found
+    requires { ⌜ (at < length (now text)) × Closed (now text) ⌝ }
+    ensures { λ r. ⌜ (frontOf (now (text .entry)) r ≡ namedBy b (word (drop at (now (text .entry))))) × (nextOf r ≤ length (now (text .entry))) ⌝ }
 {
-    match (Cursor { at: 1 }).word(line) {
-        Taken::Number(p, c) => {
-            if c.at < line.len() {
-                Taken::Bad
-            } else {
-                Taken::Number(p, c)
-            }
-        }
-        Taken::Bad => Taken::Bad,
-    }
-}
-
-// A line `s P K T`.
-fn set_line(line: &[u8]) -> Line
-    ensures { λ r. ⌜ r ≡ setPiece (word (drop 1 (now (line .entry)))) ⌝ }
-{
-    let Taken::Number(p, c) = (Cursor { at: 1 }).word(line) else {
-        return Line::Bad;
+    let Taken::Number(p, c) = (Cursor { at: at }).word(text) else {
+        return Found::Other;
     };
-    let Taken::Number(k, d) = c.word(line) else {
-        return Line::Bad;
-    };
-    let Taken::Number(t, e) = d.target_word(line) else {
-        return Line::Bad;
-    };
-    if e.at < line.len() {
-        return Line::Bad;
+    let end = c.at;
+    if text[end] != 10 {
+        return Found::Other;
     }
-    Line::Does(Command::Set { p: p, k: k, t: t })
-}
-
-// What a line says. The first byte of the line chooses the command.
-pub fn read(line: &[u8]) -> Line
-    ensures { λ r. ⌜ r ≡ says (now (line .entry)) ⌝ }
-{
-    if line.len() == 0 {
-        return Line::Bad;
-    }
-    if 64 < line.len() {
-        return Line::Bad;
-    }
-    let b = line[0];
     match b {
+        102 => Found::Right(Command::Freeze(p), end + 1),
+        97 => Found::Right(Command::Acquire(p), end + 1),
+        114 => Found::Right(Command::Release(p), end + 1),
+        98 => Found::Right(Command::Bin(p), end + 1),
+        108 => Found::Right(Command::Look(p), end + 1),
+        _ => Found::Other,
+    }
+}
+
+// A line `s P K T` behind its first byte.
+fn set_line(text: &[u8], at: usize) -> Found
+    requires { ⌜ (at < length (now text)) × Closed (now text) ⌝ }
+    ensures { λ r. ⌜ (frontOf (now (text .entry)) r ≡ setPieceBy (word (drop at (now (text .entry))))) × (nextOf r ≤ length (now (text .entry))) ⌝ }
+{
+    let Taken::Number(p, c) = (Cursor { at: at }).word(text) else {
+        return Found::Other;
+    };
+    let Taken::Number(k, d) = c.word(text) else {
+        return Found::Other;
+    };
+    let Taken::Number(t, e) = d.target_word(text) else {
+        return Found::Other;
+    };
+    let end = e.at;
+    if text[end] != 10 {
+        return Found::Other;
+    }
+    Found::Right(Command::Set { p: p, k: k, t: t }, end + 1)
+}
+
+// What the line at a place says, if it is right. The first byte of the line chooses the command.
+pub fn read(text: &[u8], at: usize) -> Found
+    requires { ⌜ (at < length (now text)) × Closed (now text) ⌝ }
+    ensures { λ r. ⌜ Reads (now (text .entry)) at r ⌝ }
+{
+    let b = text[at];
+    match b {
+        10 => Found::Other,
         110 => {
-            if line.len() == 1 {
-                Line::Does(Command::New)
+            if text[at + 1] == 10 {
+                Found::Right(Command::New, at + 2)
             } else {
-                Line::Bad
+                Found::Other
             }
         }
-        115 => set_line(line),
-        102 => match one_word(line) {
-            Taken::Number(p, _) => Line::Does(Command::Freeze(p)),
-            Taken::Bad => Line::Bad,
-        },
-        97 => match one_word(line) {
-            Taken::Number(p, _) => Line::Does(Command::Acquire(p)),
-            Taken::Bad => Line::Bad,
-        },
-        114 => match one_word(line) {
-            Taken::Number(p, _) => Line::Does(Command::Release(p)),
-            Taken::Bad => Line::Bad,
-        },
-        98 => match one_word(line) {
-            Taken::Number(p, _) => Line::Does(Command::Bin(p)),
-            Taken::Bad => Line::Bad,
-        },
-        108 => match one_word(line) {
-            Taken::Number(p, _) => Line::Does(Command::Look(p)),
-            Taken::Bad => Line::Bad,
-        },
-        _ => Line::Bad,
+        115 => set_line(text, at + 1),
+        _ => name_line(b, text, at + 1),
     }
 }

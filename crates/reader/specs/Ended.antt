@@ -1,22 +1,19 @@
--- The end of a trace: the totals, and the last line.
-use mathlib.Core.Path.{_≡_, refl, sym, ap, ap₂, _∙_, subst}
+-- The totals of the last line.
+use mathlib.Core.Path.{_≡_, refl, sym, ap₂, _∙_}
 use mathlib.Core.Bool.{Bool, true, false}
-use mathlib.Core.List.{List, [], _∷_, _++_, append-nil}
-use Prim.Native.Nat.{ℕ, suc, _+_, _≤_, _<_}
+use mathlib.Core.List.{List}
+use Prim.Native.Nat.{ℕ, _+_, _≤_}
 use native.Mathlib.Omega.{arith}
 use lib.Dec.{eqb}
-use lib.ListN.{length, getD, take}
+use lib.ListN.{getD}
 use Rattle.rules.specs.Tests.{_&_, onlyIf}
 use Rattle.rules.specs.Below.{sum}
 use Rattle.rules.specs.Tables.{Store, state, isDraft, isFrozen}
 use Rattle.rules.specs.Calls.{storeOf}
-use Rattle.rules.specs.Trace.{linesFrom, says, answerTo, storeAfter, endLine, outputOf, howMany, leads}
+use Rattle.rules.specs.Trace.{endLine, howMany, leads}
 use Rattle.laws.specs.Below.{sum-next}
-use Rattle.chunks.specs.Chunks.{Unended, lines-part}
-use Rattle.answers.specs.Wrote.{Wrote, closingLine}
+use Rattle.answers.specs.Wrote.{closingLine}
 use Rattle.answers.specs.Replies.{end-line}
-use Rattle.reader.specs.Answered.{Answered}
-use Rattle.reader.specs.Fed.{NoEnd, wrote-front}
 
 -- how many of the first k pieces are drafts, are frozen, lead a group
 pub record Totalled (states leaders : List ℕ) (k drafts frozen groups : ℕ) : Type 0 where
@@ -67,24 +64,3 @@ closing n states links leaders holds counts d f g t = ap₃ (t .drafts-are ∙ d
 
     ap₃ : {a b c x y z : ℕ} → a ≡ x → b ≡ y → c ≡ z → closingLine a b c ≡ closingLine x y z
     ap₃ p q r = λ i. closingLine (p i) (q i) (r i)
-
--- ---- what is left at the end
-
-lines-last : (text : List ℕ) → NoEnd text 0 (length text) → (0 < length text) → linesFrom [] text ≡ text ∷ []
-lines-last text h pos = ap (linesFrom []) (sym (append-nil text)) ∙ lines-part [] text [] (λ i l e. h i (omega arith) l e) ∙ last text pos
-  where
-    last : (t : List ℕ) → 0 < length t → linesFrom t [] ≡ t ∷ []
-    last [] p = absurd (omega arith)
-    last (b ∷ bs) p = unfold linesFrom in refl
-
-pub ended-empty : (s : Store) (text out out′ : List ℕ) (r : ℕ) → length text ≡ 0 → r ≤ length out → Wrote out 0 (endLine s) out′ r → take r out′ ≡ outputOf s (linesFrom [] text)
-ended-empty s [] out out′ r e h w = wrote-front out (endLine s) out′ 0 r w h ∙ (unfold outputOf linesFrom in refl)
-ended-empty s (b ∷ bs) out out′ r e h w = absurd (omega arith)
-
-pub ended-line : (n : ℕ) (s : Store) (text out : List ℕ) (s′ : Store) (l′ w′ out₁ : List ℕ) (at low : ℕ) → NoEnd text 0 (length text) → (length text ≡ 0 → ⊥) → Answered n s (says text) out 0 s′ l′ w′ out₁ at low → length out₁ ≡ length out
-    → (out₂ : List ℕ) (r : ℕ) → Wrote out₁ at (endLine s′) out₂ r → r ≤ length out → take r out₂ ≡ outputOf s (linesFrom [] text)
-ended-line n s text out s′ l′ w′ out₁ at low h d a len out₂ r w k =
-    wrote-front out₁ (endLine s′) out₂ at r w (omega arith)
-    ∙ ap (λ (t : List ℕ). t ++ endLine s′) (wrote-front out (answerTo s (says text)) out₁ 0 at (a .wrote) (let x = w .place in omega arith))
-    ∙ ap (λ (t : Store). answerTo s (says text) ++ endLine t) (a .store)
-    ∙ sym (ap (outputOf s) (lines-last text h (omega arith)) ∙ (unfold outputOf in refl))

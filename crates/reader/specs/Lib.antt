@@ -1,3 +1,4 @@
 pub mod Answered
+pub mod Lines
 pub mod Fed
 pub mod Ended

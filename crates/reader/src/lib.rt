@@ -1,20 +1,23 @@
 // The trace reader: a line in, a line out, on tables that are sound by proof.
 ghost use mathlib.Core.Path.{_≡_};
-ghost use mathlib.Core.List.{[]};
-ghost use Prim.Native.Nat.{_+_, _≤_};
+ghost use Prim.Native.Nat.{_+_, _≤_, _<_};
 ghost use lib.Dec.{eqb};
-ghost use lib.ListN.{length, take};
+ghost use lib.ListN.{length};
 ghost use Rattle.rules.specs.Tests.{_&_, onlyIf};
 ghost use Rattle.rules.specs.Calls.{storeOf, Ready};
-ghost use Rattle.rules.specs.Trace.{says, endLine, linesFrom, outputOf};
+ghost use Rattle.rules.specs.Trace.{endLine};
+ghost use Rattle.rules.specs.declared.Line.the-variants.{Does};
+ghost use Rattle.lines.specs.Ending.{Closed};
 ghost use Rattle.obeying.specs.Obeyed.{replyOf};
 ghost use Rattle.answers.specs.Wrote.{Wrote};
 ghost use Rattle.answers.specs.Replies.{replyLine, freedIn};
 ghost use Rattle.reader.specs.Answered.{Stands, Answered};
-ghost use Rattle.reader.specs.Fed.{LineEnd, Feeding, Stopped, NoEnd};
+ghost use Rattle.reader.specs.Lines.{LineEnd, Whole};
+ghost use Rattle.reader.specs.Fed.{Feeding, Stopped};
 ghost use Rattle.reader.specs.Ended.{Totalled};
+use lines::Found;
 use obeying::Reply;
-use rules::Line;
+use rules::Command;
 
 // Where the output goes on, and a number below which nothing is free.
 pub struct Step {
@@ -33,9 +36,9 @@ fn write_reply(out: &mut [u8], at: usize, reply: Reply, list: &[u16]) -> usize
     }
 }
 
-// Reads one line, does what it says and writes its answer at a place of out.
-pub fn answer(
-    line: &[u8],
+// Does a command and writes its answer at a place of out.
+fn act(
+    command: Command,
     n: usize,
     states: &mut [u8],
     links: &mut [u16],
@@ -49,37 +52,26 @@ pub fn answer(
     at: usize,
 ) -> Step
     requires { ⌜ Stands n (storeOf n (now states) (now links) (now leaders) (now holds) (now counts)) (now list) (now work) from × (at + 6208 ≤ length (now out)) ⌝ }
-    ensures { λ r. ⌜ Answered n (storeOf n (now (states .entry)) (now (links .entry)) (now (leaders .entry)) (now (holds .entry)) (now (counts .entry))) (says (now (line .entry))) (now (out .entry)) at
+    ensures { λ r. ⌜ Answered n (storeOf n (now (states .entry)) (now (links .entry)) (now (leaders .entry)) (now (holds .entry)) (now (counts .entry))) (Does command) (now (out .entry)) at
         (storeOf n (now (states .exit)) (now (links .exit)) (now (leaders .exit)) (now (holds .exit)) (now (counts .exit))) (now (list .exit)) (now (work .exit)) (now (out .exit)) (r .at) (r .from) ⌝ }
 {
-    match lines::read(line) {
-        Line::Does(command) => {
-            let reply = obeying::obey(
-                n,
-                states,
-                links,
-                leaders,
-                holds,
-                counts,
-                list,
-                work,
-                from,
-                command,
-            );
-            let next = write_reply(out, at, reply, list);
-            let low = obeying::lowest(command, reply, list, from);
-            Step {
-                at: next,
-                from: low,
-            }
-        }
-        Line::Bad => {
-            let next = answers::put_bad(out, at);
-            Step {
-                at: next,
-                from: from,
-            }
-        }
+    let reply = obeying::obey(
+        n,
+        states,
+        links,
+        leaders,
+        holds,
+        counts,
+        list,
+        work,
+        from,
+        command,
+    );
+    let low = obeying::lowest(command, reply, list, from);
+    let next = write_reply(out, at, reply, list);
+    Step {
+        at: next,
+        from: low,
     }
 }
 
@@ -91,21 +83,32 @@ pub struct Fed {
 }
 
 // Where the line that starts at a place ends.
-pub fn line_end(text: &[u8], at: usize) -> usize
-    requires { ⌜ at ≤ length (now text) ⌝ }
+fn line_end(text: &[u8], at: usize) -> usize
+    requires { ⌜ (at < length (now text)) × Closed (now text) ⌝ }
     ensures { λ r. ⌜ LineEnd (now (text .entry)) at r ⌝ }
 {
     let mut i = at;
-    while i < text.len() {
-        if text[i] == 10 {
-            return i;
-        }
+    while text[i] != 10 {
         i += 1;
     }
     i
 }
 
-// Answers the whole lines at the front of a text, while out has room for the longest line.
+// How many bytes the whole lines of a text are.
+pub fn whole(text: &[u8]) -> usize
+    ensures { λ r. ⌜ Whole (now (text .entry)) r ⌝ }
+{
+    let mut r = text.len();
+    while 0 < r {
+        if text[r - 1] == 10 {
+            return r;
+        }
+        r -= 1;
+    }
+    r
+}
+
+// Answers the lines of a text whose last byte is 10, while out has room for the longest line.
 pub fn feed(
     text: &[u8],
     n: usize,
@@ -119,40 +122,48 @@ pub fn feed(
     from: usize,
     out: &mut [u8],
 ) -> Fed
-    requires { ⌜ Stands n (storeOf n (now states) (now links) (now leaders) (now holds) (now counts)) (now list) (now work) from ⌝ }
+    requires { ⌜ Stands n (storeOf n (now states) (now links) (now leaders) (now holds) (now counts)) (now list) (now work) from × Closed (now text) × (6208 ≤ length (now out)) ⌝ }
     ensures { λ r. ⌜ Feeding n (storeOf n (now (states .entry)) (now (links .entry)) (now (leaders .entry)) (now (holds .entry)) (now (counts .entry))) (now (text .entry))
         (storeOf n (now (states .exit)) (now (links .exit)) (now (leaders .exit)) (now (holds .exit)) (now (counts .exit))) (now (list .exit)) (now (work .exit)) (now (out .exit)) (r .taken) (r .written) (r .from)
         × Stopped (now (text .entry)) (now (out .exit)) (r .taken) (r .written) ⌝ }
 {
+    let most = out.len() - 6208;
     let mut at = 0;
     let mut written = 0;
     let mut low = from;
-    while 6208 <= out.len() - written {
-        let end = line_end(text, at);
-        if end == text.len() {
+    while at < text.len() {
+        if most < written {
             return Fed {
                 taken: at,
                 written: written,
                 from: low,
             };
         }
-        let step = answer(
-            &text[at..end],
-            n,
-            states,
-            links,
-            leaders,
-            holds,
-            counts,
-            list,
-            work,
-            low,
-            out,
-            written,
-        );
-        at = end + 1;
-        written = step.at;
-        low = step.from;
+        match lines::read(text, at) {
+            Found::Right(command, next) => {
+                let step = act(
+                    command,
+                    n,
+                    states,
+                    links,
+                    leaders,
+                    holds,
+                    counts,
+                    list,
+                    work,
+                    low,
+                    out,
+                    written,
+                );
+                at = next;
+                written = step.at;
+                low = step.from;
+            }
+            Found::Other => {
+                at = line_end(text, at) + 1;
+                written = answers::put_bad(out, written);
+            }
+        }
     }
     Fed {
         taken: at,
@@ -214,8 +225,8 @@ fn total(n: usize, states: &[u8], leaders: &[u16]) -> Totals
     }
 }
 
-// Writes the last line.
-fn close(
+// Writes the last line of a trace.
+pub fn close(
     n: usize,
     states: &[u8],
     links: &[u16],
@@ -230,42 +241,4 @@ fn close(
 {
     let all = total(n, states, leaders);
     answers::put_end(out, at, all.drafts, all.frozen, all.groups)
-}
-
-// At the end of a trace: answers a last line without its end, if it has a byte, and writes the last line.
-pub fn end(
-    text: &[u8],
-    n: usize,
-    states: &mut [u8],
-    links: &mut [u16],
-    leaders: &mut [u16],
-    holds: &mut [u16],
-    counts: &mut [u32],
-    list: &mut [u16],
-    work: &mut [u32],
-    from: usize,
-    out: &mut [u8],
-) -> usize
-    requires { ⌜ Stands n (storeOf n (now states) (now links) (now leaders) (now holds) (now counts)) (now list) (now work) from × (6272 ≤ length (now out)) × NoEnd (now text) 0 (length (now text)) ⌝ }
-    ensures { λ r. ⌜ (r ≤ length (now (out .exit))) × (take r (now (out .exit)) ≡ outputOf (storeOf n (now (states .entry)) (now (links .entry)) (now (leaders .entry)) (now (holds .entry)) (now (counts .entry))) (linesFrom [] (now (text .entry)))) ⌝ }
-{
-    if text.len() == 0 {
-        return close(n, states, links, leaders, holds, counts, out, 0);
-    }
-    let step = answer(
-        text,
-        n,
-        states,
-        links,
-        leaders,
-        holds,
-        counts,
-        list,
-        work,
-        from,
-        out,
-        0,
-    );
-    let at = step.at;
-    close(n, states, links, leaders, holds, counts, out, at)
 }

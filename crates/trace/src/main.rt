@@ -1,24 +1,22 @@
 // Reads a trace of any length from standard input and writes the answers to standard output.
-ghost use mathlib.Core.Path.{_≡_};
-ghost use mathlib.Core.Bool.{true};
-ghost use Prim.Native.Nat.{_≤_};
+ghost use Prim.Native.Nat.{_≤_, _<_};
 ghost use lib.ListN.{length, take};
 ghost use Rattle.rules.specs.Calls.{storeOf};
+ghost use Rattle.lines.specs.Ending.{Closed};
 ghost use Rattle.reader.specs.Answered.{Stands};
-ghost use Rattle.reader.specs.Fed.{NoEnd};
+ghost use Rattle.reader.specs.Lines.{NoEnd};
 ghost use Rattle.trace.specs.Served.{Served};
 ghost use Rattle.trace.specs.Turned.{Behind, Turned};
 use libc::STDIN_FILENO;
 use libc::STDOUT_FILENO;
 
-// How far a text was answered, a number below which nothing is free, and whether all was written.
+// A number below which nothing is free, and whether all was written.
 struct Lines {
-    taken: usize,
     from: usize,
     wrote: bool,
 }
 
-// Answers the whole lines of a text and writes the answers, each time that out is full.
+// Answers the lines of a text whose last byte is 10 and writes the answers, as many at a time as out holds.
 fn serve(
     text: &[u8],
     states: &mut [u8],
@@ -31,15 +29,13 @@ fn serve(
     from: usize,
     out: &mut [u8],
 ) -> Lines
-    requires { ⌜ Stands 1024 (storeOf 1024 (now states) (now links) (now leaders) (now holds) (now counts)) (now list) (now work) from ⌝ }
+    requires { ⌜ Stands 1024 (storeOf 1024 (now states) (now links) (now leaders) (now holds) (now counts)) (now list) (now work) from × Closed (now text) × (6208 ≤ length (now out)) ⌝ }
     ensures { λ r. ⌜ Served (storeOf 1024 (now (states .entry)) (now (links .entry)) (now (leaders .entry)) (now (holds .entry)) (now (counts .entry))) (now (text .entry))
-        (storeOf 1024 (now (states .exit)) (now (links .exit)) (now (leaders .exit)) (now (holds .exit)) (now (counts .exit))) (now (list .exit)) (now (work .exit)) (r .taken) (r .from)
-        × (r .wrote ≡ true → NoEnd (now (text .entry)) (r .taken) (length (now (text .entry)))) ⌝ }
+        (storeOf 1024 (now (states .exit)) (now (links .exit)) (now (leaders .exit)) (now (holds .exit)) (now (counts .exit))) (now (list .exit)) (now (work .exit)) (r .from) (r .wrote) ⌝ }
 {
     let mut at = 0;
     let mut low = from;
-    let mut turns = u64::MAX;
-    while turns > 0 {
+    while at < text.len() {
         let fed = reader::feed(
             &text[at..],
             1024,
@@ -57,39 +53,53 @@ fn serve(
         at += fed.taken;
         low = fed.from;
         if !io::write_all(STDOUT_FILENO, &out[..written]) {
-            turns = 0;
-        } else if 6208 <= out.len() - written {
             return Lines {
-                taken: at,
                 from: low,
-                wrote: true,
+                wrote: false,
             };
-        } else {
-            turns -= 1;
         }
     }
     Lines {
-        taken: at,
         from: low,
-        wrote: false,
+        wrote: true,
     }
 }
 
-// Reads once behind the bytes that are kept, and answers how many came: none at the end of the input, or where a read fails.
-fn read_more(buf: &mut [u8], kept: usize) -> usize
-    requires { ⌜ kept ≤ length (now buf) ⌝ }
-    ensures { λ r. ⌜ Behind (now (buf .entry)) kept (now (buf .exit)) r ⌝ }
-{
-    let got = libc::read(STDIN_FILENO, &mut buf[kept..]);
-    io::count(got, &buf[kept..])
+// Where the bytes to answer end, and whether the input is over.
+struct Chunk {
+    end: usize,
+    last: bool,
 }
 
-// How many bytes are kept, a number below which nothing is free, whether there may be more to read, and whether all was written.
+// Reads once behind the bytes that are kept. Where none come, at the end of the input or where a read fails, byte 10 ends a line that is kept.
+fn read_more(buf: &mut [u8], kept: usize) -> Chunk
+    requires { ⌜ kept < length (now buf) ⌝ }
+    ensures { λ r. ⌜ Behind (now (buf .entry)) kept (now (buf .exit)) (r .end) (r .last) ⌝ }
+{
+    let got = libc::read(STDIN_FILENO, &mut buf[kept..]);
+    let size = io::count(got, &buf[kept..]);
+    if 0 < size {
+        return Chunk {
+            end: kept + size,
+            last: false,
+        };
+    }
+    if kept == 0 {
+        return Chunk { end: 0, last: true };
+    }
+    buf[kept] = 10;
+    Chunk {
+        end: kept + 1,
+        last: true,
+    }
+}
+
+// How many bytes are kept, a number below which nothing is free, whether there may be more to read, and whether all was read and written.
 struct Next {
     kept: usize,
     from: usize,
     more: bool,
-    wrote: bool,
+    done: bool,
 }
 
 // Reads more, answers the whole lines and carries the rest to the front.
@@ -106,22 +116,15 @@ fn turn(
     from: usize,
     out: &mut [u8],
 ) -> Next
-    requires { ⌜ Stands 1024 (storeOf 1024 (now states) (now links) (now leaders) (now holds) (now counts)) (now list) (now work) from × (kept ≤ 65) × (kept ≤ length (now buf)) × NoEnd (now buf) 0 kept ⌝ }
+    requires { ⌜ Stands 1024 (storeOf 1024 (now states) (now links) (now leaders) (now holds) (now counts)) (now list) (now work) from × (kept ≤ 65) × (kept < length (now buf)) × NoEnd (now buf) 0 kept × (6208 ≤ length (now out)) ⌝ }
     ensures { λ r. ⌜ Turned (storeOf 1024 (now (states .entry)) (now (links .entry)) (now (leaders .entry)) (now (holds .entry)) (now (counts .entry))) (take kept (now (buf .entry)))
-        (storeOf 1024 (now (states .exit)) (now (links .exit)) (now (leaders .exit)) (now (holds .exit)) (now (counts .exit))) (now (list .exit)) (now (work .exit)) (now (buf .exit)) (r .kept) (r .from) (r .more) (r .wrote) ⌝ }
+        (storeOf 1024 (now (states .exit)) (now (links .exit)) (now (leaders .exit)) (now (holds .exit)) (now (counts .exit))) (now (list .exit)) (now (work .exit)) (now (buf .exit)) (r .kept) (r .from) (r .more) (r .done) ⌝ }
 {
-    let got = read_more(buf, kept);
-    if got == 0 {
-        return Next {
-            kept: kept,
-            from: from,
-            more: false,
-            wrote: true,
-        };
-    }
-    let end = kept + got;
+    let chunk = read_more(buf, kept);
+    let end = chunk.end;
+    let whole = reader::whole(&buf[..end]);
     let lines = serve(
-        &buf[..end],
+        &buf[..whole],
         states,
         links,
         leaders,
@@ -137,16 +140,23 @@ fn turn(
             kept: 0,
             from: lines.from,
             more: false,
-            wrote: false,
+            done: false,
         };
     }
-    let taken = lines.taken;
-    let rest = carrying::carry(buf, taken, end);
+    if chunk.last {
+        return Next {
+            kept: 0,
+            from: lines.from,
+            more: false,
+            done: true,
+        };
+    }
+    let rest = carrying::carry(buf, whole, end);
     Next {
         kept: rest,
         from: lines.from,
         more: true,
-        wrote: true,
+        done: false,
     }
 }
 
@@ -162,7 +172,7 @@ fn main() {
     let mut out = [0u8; 65536];
     let mut kept = 0;
     let mut from = 0;
-    let mut wrote = true;
+    let mut done = false;
     let mut turns = u64::MAX;
     while turns > 0 {
         let next = turn(
@@ -180,26 +190,23 @@ fn main() {
         );
         kept = next.kept;
         from = next.from;
-        wrote = next.wrote;
+        done = next.done;
         if next.more {
             turns -= 1;
         } else {
             turns = 0;
         }
     }
-    if wrote {
-        let size = reader::end(
-            &buf[..kept],
+    if done {
+        let size = reader::close(
             1024,
-            &mut states,
-            &mut links,
-            &mut leaders,
-            &mut holds,
-            &mut counts,
-            &mut list,
-            &mut work,
-            from,
+            &states,
+            &links,
+            &leaders,
+            &holds,
+            &counts,
             &mut out,
+            0,
         );
         io::write_all(STDOUT_FILENO, &out[..size]);
     }

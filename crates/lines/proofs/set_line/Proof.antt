@@ -1,50 +1,58 @@
--- `set_line` says what a line `s P K T` says, word after word. Assumes nothing.
+-- `set_line` takes word after word and the byte 10 behind the last. Assumes nothing.
 use mathlib.Core.Path.{sym}
-use Rattle.lines.specs.Says.{ends-left, ends-here}
+use native.Mathlib.Omega.{arith}
+use borrow.Author.Needs.{needs}
+use Rattle.lines.specs.Fronts.{ended-here, ended-not}
 use Rattle.lines.proofs.set_line.Statement.{statement}
 use Rattle.lines.proofs.set_line.Tie as tie
 
 word-requires : tie.Need-word-requires
-word-requires c κs = tt
+word-requires c κs = search needs
 
 enum-known-p : tie.Need-enum-known-p
-enum-known-p c = c .match .keys1
+enum-known-p c = search needs
 
 enum-told : tie.Need-enum-told
-enum-told c = c .match .keys2
+enum-told c = search needs
 
 returns : tie.Need-returns
-returns c = rw (← c .before .before .word .ensures, c .enum-told .given .1)
+returns c = (rw (← c .before .before .word .ensures .0, c .enum-told .given .1), omega arith)
 
 word-requires-2 : tie.Need-word-requires-2
-word-requires-2 c κs = tt
+word-requires-2 c κs = (rw (c .before .p .given .1) at (c .before .before .before .word .ensures .1), c .before .before .before .before .before .pre .1)
 
 enum-known-k : tie.Need-enum-known-k
-enum-known-k c = c .match2 .keys1
+enum-known-k c = search needs
 
 enum-told-2 : tie.Need-enum-told-2
-enum-told-2 c = c .match2 .keys2
+enum-told-2 c = search needs
 
 returns-2 : tie.Need-returns-2
-returns-2 c = rw (← c .before .before .before .before .before .before .word .ensures, c .before .before .before .before .p .given .1, ← c .before .before .word2 .ensures, c .enum-told2 .given .1)
+returns-2 c = (rw (← c .before .before .before .before .before .before .word .ensures .0, c .before .before .before .before .p .given .1, ← c .before .before .word2 .ensures .0, c .enum-told2 .given .1), omega arith)
 
 target-word-requires : tie.Need-target-word-requires
-target-word-requires c κs = tt
+target-word-requires c κs = (rw (c .before .k .given .1) at (c .before .before .before .word2 .ensures .1), c .before .before .before .before .before .before .before .before .before .pre .1)
 
 enum-known-t : tie.Need-enum-known-t
-enum-known-t c = c .match3 .keys1
+enum-known-t c = search needs
 
 enum-told-3 : tie.Need-enum-told-3
-enum-told-3 c = c .match3 .keys2
+enum-told-3 c = search needs
 
 returns-3 : tie.Need-returns-3
-returns-3 c = rw (← c .before .before .before .before .before .before .before .before .before .before .word .ensures, c .before .before .before .before .before .before .before .before .p .given .1, ← c .before .before .before .before .before .before .word2 .ensures, c .before .before .before .before .k .given .1, ← c .before .before .target-word .ensures, c .enum-told3 .given .1)
+returns-3 c = (rw (← c .before .before .before .before .before .before .before .before .before .before .word .ensures .0, c .before .before .before .before .before .before .before .before .p .given .1, ← c .before .before .before .before .before .before .word2 .ensures .0, c .before .before .before .before .k .given .1, ← c .before .before .target-word .ensures .0, c .enum-told3 .given .1), omega arith)
+
+shared-slice-read-if1 : tie.Need-shared-slice-read-if1
+shared-slice-read-if1 c = rw (c .before .before .t .given .1) at (c .before .before .before .before .target-word .ensures .1)
 
 returns-4 : tie.Need-returns-4
-returns-4 c = rw (← c .before .before .before .before .before .before .before .before .before .before .before .before .before .word .ensures, c .before .before .before .before .before .before .before .before .before .before .before .p .given .1, ← c .before .before .before .before .before .before .before .before .before .word2 .ensures, c .before .before .before .before .before .before .before .k .given .1, ← c .before .before .before .before .before .target-word .ensures, c .before .before .before .t .given .1) (sym (ends-left _ _ _ (c .if1 .taken)))
+returns-4 c = (rw (← c .before .before .before .before .before .before .before .before .before .before .before .before .before .word .ensures .0, c .before .before .before .before .before .before .before .before .before .before .before .p .given .1, ← c .before .before .before .before .before .before .before .before .before .word2 .ensures .0, c .before .before .before .before .before .before .before .k .given .1, ← c .before .before .before .before .before .target-word .ensures .0, c .before .before .before .t .given .1) (sym (ended-not _ _ _ (rw (c .before .before .before .t .given .1) at (c .before .before .before .before .before .target-word .ensures .1)) (c .if1 .taken))), omega arith)
+
+add-t18 : tie.Need-add-t18
+add-t18 c = omega (arith, rw (c .before .before .before .t .given .1) at (c .before .before .before .before .before .target-word .ensures .1), c .before .before .before .before .before .before .before .before .before .before .before .before .before .before .before .good)
 
 returns-5 : tie.Need-returns-5
-returns-5 c = rw (← c .before .before .before .before .before .before .before .before .before .before .before .before .before .word .ensures, c .before .before .before .before .before .before .before .before .before .before .before .p .given .1, ← c .before .before .before .before .before .before .before .before .before .word2 .ensures, c .before .before .before .before .before .before .before .k .given .1, ← c .before .before .before .before .before .target-word .ensures, c .before .before .before .t .given .1) (sym (ends-here _ _ _ (c .if1 .left)))
+returns-5 c = (rw (← c .before .before .before .before .before .before .before .before .before .before .before .before .before .word .ensures .0, c .before .before .before .before .before .before .before .before .before .before .before .p .given .1, ← c .before .before .before .before .before .before .before .before .before .word2 .ensures .0, c .before .before .before .before .before .before .before .k .given .1, ← c .before .before .before .before .before .target-word .ensures .0, c .before .before .before .t .given .1) (sym (ended-here _ _ _ (rw (c .before .before .before .t .given .1) at (c .before .before .before .before .before .target-word .ensures .1)) (c .if1 .left))), omega (arith, rw (c .before .before .before .t .given .1) at (c .before .before .before .before .before .target-word .ensures .1)))
 
 pub set-line-spec : {M : Type 1} → statement M
 set-line-spec =
@@ -62,5 +70,7 @@ set-line-spec =
     enum-known-t
     enum-told-3
     returns-3
+    shared-slice-read-if1
     returns-4
+    add-t18
     returns-5)

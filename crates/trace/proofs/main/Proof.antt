@@ -1,4 +1,4 @@
--- `trace::main` starts with the empty store and keeps it standing from turn to turn; while all was written, it is what 01 gives for all that was read. Assumes nothing.
+-- `trace::main` starts with the empty store and keeps it standing from turn to turn; what it goes on with, and what it ends with, is what 01 gives for all that was read. Assumes nothing.
 use Prim.Native.Nat.{ℕ, _≤_, _<_}
 use mathlib.Core.Path.{_≡_, refl, sym, _∙_}
 use mathlib.Core.Bool.{true}
@@ -7,27 +7,25 @@ use lib.ListN.{length, take, length-replicate}
 use lib.Seq.{length-take-le}
 use Rattle.rules.specs.Calls.{storeOf}
 use Rattle.reader.specs.Answered.{Stands}
-use Rattle.reader.specs.Fed.{NoEnd}
-use Rattle.carrying.specs.Sofar.{Sofar, sofar-more}
-use Rattle.trace.specs.Turned.{no-end-front}
+use Rattle.reader.specs.Lines.{NoEnd}
+use Rattle.carrying.specs.Sofar.{Sofar, sofar-more, Finished, sofar-over}
 use Rattle.trace.specs.Started.{started-stands, started-sofar}
 use Rattle.trace.proofs.main.Statement.{statement}
 use Rattle.trace.proofs.main.Tie as tie
 
 abbrev Inv-loop : tie.InvT-loop
-Inv-loop states₀ links₀ leaders₀ holds₀ counts₀ list₀ work₀ buf₀ out₀ kept₀ from₀ wrote₀ turns₀ states links leaders holds counts list work buf out kept from wrote turns =
-    Stands 1024 (storeOf 1024 states links leaders holds counts) list work from × (kept ≤ 65) × NoEnd buf 0 kept × (wrote ≡ true → Sofar 1024 (storeOf 1024 states links leaders holds counts) (take kept buf))
-    × (length list ≡ 1024) × (length work ≡ 8192) × (length buf ≡ 65536) × (length out ≡ 65536) × (0 < turns → wrote ≡ true)
+Inv-loop states₀ links₀ leaders₀ holds₀ counts₀ list₀ work₀ buf₀ out₀ kept₀ from₀ done₀ turns₀ states links leaders holds counts list work buf out kept from done turns =
+    Stands 1024 (storeOf 1024 states links leaders holds counts) list work from × (kept ≤ 65) × NoEnd buf 0 kept × (0 < turns → Sofar 1024 (storeOf 1024 states links leaders holds counts) (take kept buf)) × (done ≡ true → Finished 1024 (storeOf 1024 states links leaders holds counts))
+    × (length list ≡ 1024) × (length work ≡ 8192) × (length buf ≡ 65536) × (length out ≡ 65536)
 
 abbrev μ-loop : tie.MeasureT-loop
-μ-loop states₀ links₀ leaders₀ holds₀ counts₀ list₀ work₀ buf₀ out₀ kept₀ from₀ wrote₀ turns₀ states links leaders holds counts list work buf out kept from wrote turns =
-    turns
+μ-loop states₀ links₀ leaders₀ holds₀ counts₀ list₀ work₀ buf₀ out₀ kept₀ from₀ done₀ turns₀ states links leaders holds counts list work buf out kept from done turns = turns
 
 loop-holds : tie.Need-loop-holds Inv-loop μ-loop
-loop-holds c = (started-stands, omega arith, λ i a b e. omega arith, λ _. started-sofar, length-replicate {A = ℕ} 1024 0, length-replicate {A = ℕ} 8192 0, length-replicate {A = ℕ} 65536 0, length-replicate {A = ℕ} 65536 0, λ _. refl)
+loop-holds c = (started-stands, omega arith, λ i a b e. omega arith, λ _. started-sofar, λ e. absurd (let z : _≡_ {A = ℕ} 0 1 = cc e in omega arith), length-replicate {A = ℕ} 1024 0, length-replicate {A = ℕ} 8192 0, length-replicate {A = ℕ} 65536 0, length-replicate {A = ℕ} 65536 0)
 
 slice-aggregate-turn : tie.Need-slice-aggregate-turn Inv-loop μ-loop
-slice-aggregate-turn c = sym (c .before .before .loop .inv .6)
+slice-aggregate-turn c = sym (c .before .before .loop .inv .7)
 
 slice-aggregate-turn-2 : tie.Need-slice-aggregate-turn-2 Inv-loop μ-loop
 slice-aggregate-turn-2 c = sym (c .before .before .before .loop .inv .0 .ready .sized .base .states)
@@ -45,16 +43,16 @@ slice-aggregate-turn-6 : tie.Need-slice-aggregate-turn-6 Inv-loop μ-loop
 slice-aggregate-turn-6 c = sym (c .before .before .before .before .before .before .before .loop .inv .0 .ready .sized .counts)
 
 slice-aggregate-turn-7 : tie.Need-slice-aggregate-turn-7 Inv-loop μ-loop
-slice-aggregate-turn-7 c = sym (c .before .before .before .before .before .before .before .before .loop .inv .4)
+slice-aggregate-turn-7 c = sym (c .before .before .before .before .before .before .before .before .loop .inv .5)
 
 slice-aggregate-turn-8 : tie.Need-slice-aggregate-turn-8 Inv-loop μ-loop
-slice-aggregate-turn-8 c = sym (c .before .before .before .before .before .before .before .before .before .loop .inv .5)
+slice-aggregate-turn-8 c = sym (c .before .before .before .before .before .before .before .before .before .loop .inv .6)
 
 slice-aggregate-turn-9 : tie.Need-slice-aggregate-turn-9 Inv-loop μ-loop
-slice-aggregate-turn-9 c = sym (c .before .before .before .before .before .before .before .before .before .before .loop .inv .7)
+slice-aggregate-turn-9 c = sym (c .before .before .before .before .before .before .before .before .before .before .loop .inv .8)
 
 turn-requires : tie.Need-turn-requires Inv-loop μ-loop
-turn-requires c κs = (c .before .before .before .before .before .before .before .before .before .before .loop .inv .0, c .before .before .before .before .before .before .before .before .before .before .loop .inv .1, omega (arith, c .before .before .before .before .before .before .before .before .before .before .loop .inv .1, c .before .before .before .before .before .before .before .before .before .before .loop .inv .6), c .before .before .before .before .before .before .before .before .before .before .loop .inv .2)
+turn-requires c κs = (c .before .before .before .before .before .before .before .before .before .before .loop .inv .0, c .before .before .before .before .before .before .before .before .before .before .loop .inv .1, omega (arith, c .before .before .before .before .before .before .before .before .before .before .loop .inv .1, c .before .before .before .before .before .before .before .before .before .before .loop .inv .7), c .before .before .before .before .before .before .before .before .before .before .loop .inv .2, omega (arith, c .before .before .before .before .before .before .before .before .before .before .loop .inv .8))
 
 sub-turns : tie.Need-sub-turns Inv-loop μ-loop
 sub-turns c = omega arith
@@ -63,72 +61,40 @@ loop-less : tie.Need-loop-less Inv-loop μ-loop
 loop-less c = omega arith
 
 loop-again : tie.Need-loop-again Inv-loop μ-loop
-loop-again c = (
-  c .before .before .before .before .before .before .before .before .before .before .turn .ensures .stands,
-  c .before .before .before .before .before .before .before .before .before .before .turn .ensures .few,
-  c .before .before .before .before .before .before .before .before .before .before .turn .ensures .unended,
-  λ e. sofar-more 1024 (storeOf 1024 (c .before .before .before .before .before .before .before .before .before .before .before .before .before .before .before .before .before .before .before .before .before .loop .states) (c .before .before .before .before .before .before .before .before .before .before .before .before .before .before .before .before .before .before .before .before .before .loop .links) (c .before .before .before .before .before .before .before .before .before .before .before .before .before .before .before .before .before .before .before .before .before .loop .leaders) (c .before .before .before .before .before .before .before .before .before .before .before .before .before .before .before .before .before .before .before .before .before .loop .holds) (c .before .before .before .before .before .before .before .before .before .before .before .before .before .before .before .before .before .before .before .before .before .loop .counts)) (take (c .before .before .before .before .before .before .before .before .before .before .before .before .before .before .before .before .before .before .before .before .before .loop .kept) (c .before .before .before .before .before .before .before .before .before .before .before .before .before .before .before .before .before .before .before .before .before .loop .buf)) (storeOf 1024 (c .before .before .before .before .before .before .before .before .before .before .turn .last .1 .1 .0) (c .before .before .before .before .before .before .before .before .before .before .turn .last .1 .1 .1 .0) (c .before .before .before .before .before .before .before .before .before .before .turn .last .1 .1 .1 .1 .0) (c .before .before .before .before .before .before .before .before .before .before .turn .last .1 .1 .1 .1 .1 .0) (c .before .before .before .before .before .before .before .before .before .before .turn .last .1 .1 .1 .1 .1 .1 .0)) (take (c .before .before .before .before .before .before .before .before .before .before .turn .result .kept) (c .before .before .before .before .before .before .before .before .before .before .turn .last .0)) (c .before .before .before .before .before .before .before .before .before .before .before .before .before .before .before .before .before .before .before .before .before .loop .inv .3 (c .before .before .before .before .before .before .before .before .before .before .before .before .before .before .before .before .before .before .before .before .before .loop .inv .8 (omega arith))) (c .before .before .before .before .before .before .before .before .before .before .turn .ensures .went e),
-  c .before .before .before .before .before .before .before .before .before .before .turn .kept .1 .1 .1 .1 .1 .1 .1 .0 ∙ c .before .before .before .before .before .before .before .before .before .before .before .before .before .before .before .before .before .before .before .before .before .loop .inv .4,
-  c .before .before .before .before .before .before .before .before .before .before .turn .kept .1 .1 .1 .1 .1 .1 .1 .1 .0 ∙ c .before .before .before .before .before .before .before .before .before .before .before .before .before .before .before .before .before .before .before .before .before .loop .inv .5,
-  c .before .before .before .before .before .before .before .before .before .before .turn .kept .0 ∙ c .before .before .before .before .before .before .before .before .before .before .before .before .before .before .before .before .before .before .before .before .before .loop .inv .6,
-  c .before .before .before .before .before .before .before .before .before .before .turn .kept .1 .1 .1 .1 .1 .1 .1 .1 .1 .1 .0 ∙ c .before .before .before .before .before .before .before .before .before .before .before .before .before .before .before .before .before .before .before .before .before .loop .inv .7,
-  λ _. c .before .before .before .before .before .before .before .before .before .before .turn .ensures .going (c .if1 .taken),
-)
+loop-again c = (c .before .before .before .before .before .before .before .before .before .before .turn .ensures .stands, c .before .before .before .before .before .before .before .before .before .before .turn .ensures .few, c .before .before .before .before .before .before .before .before .before .before .turn .ensures .unended, λ _. sofar-more 1024 (storeOf 1024 (c .before .before .before .before .before .before .before .before .before .before .before .before .before .before .before .before .before .before .before .before .before .loop .states) (c .before .before .before .before .before .before .before .before .before .before .before .before .before .before .before .before .before .before .before .before .before .loop .links) (c .before .before .before .before .before .before .before .before .before .before .before .before .before .before .before .before .before .before .before .before .before .loop .leaders) (c .before .before .before .before .before .before .before .before .before .before .before .before .before .before .before .before .before .before .before .before .before .loop .holds) (c .before .before .before .before .before .before .before .before .before .before .before .before .before .before .before .before .before .before .before .before .before .loop .counts)) (take (c .before .before .before .before .before .before .before .before .before .before .before .before .before .before .before .before .before .before .before .before .before .loop .kept) (c .before .before .before .before .before .before .before .before .before .before .before .before .before .before .before .before .before .before .before .before .before .loop .buf)) (storeOf 1024 (c .before .before .before .before .before .before .before .before .before .before .turn .last .1 .1 .0) (c .before .before .before .before .before .before .before .before .before .before .turn .last .1 .1 .1 .0) (c .before .before .before .before .before .before .before .before .before .before .turn .last .1 .1 .1 .1 .0) (c .before .before .before .before .before .before .before .before .before .before .turn .last .1 .1 .1 .1 .1 .0) (c .before .before .before .before .before .before .before .before .before .before .turn .last .1 .1 .1 .1 .1 .1 .0)) (take (c .before .before .before .before .before .before .before .before .before .before .turn .result .kept) (c .before .before .before .before .before .before .before .before .before .before .turn .last .0)) (c .before .before .before .before .before .before .before .before .before .before .before .before .before .before .before .before .before .before .before .before .before .loop .inv .3 (omega arith)) (c .before .before .before .before .before .before .before .before .before .before .turn .ensures .going (c .if1 .taken)), λ e. sofar-over 1024 (storeOf 1024 (c .before .before .before .before .before .before .before .before .before .before .before .before .before .before .before .before .before .before .before .before .before .loop .states) (c .before .before .before .before .before .before .before .before .before .before .before .before .before .before .before .before .before .before .before .before .before .loop .links) (c .before .before .before .before .before .before .before .before .before .before .before .before .before .before .before .before .before .before .before .before .before .loop .leaders) (c .before .before .before .before .before .before .before .before .before .before .before .before .before .before .before .before .before .before .before .before .before .loop .holds) (c .before .before .before .before .before .before .before .before .before .before .before .before .before .before .before .before .before .before .before .before .before .loop .counts)) (take (c .before .before .before .before .before .before .before .before .before .before .before .before .before .before .before .before .before .before .before .before .before .loop .kept) (c .before .before .before .before .before .before .before .before .before .before .before .before .before .before .before .before .before .before .before .before .before .loop .buf)) (storeOf 1024 (c .before .before .before .before .before .before .before .before .before .before .turn .last .1 .1 .0) (c .before .before .before .before .before .before .before .before .before .before .turn .last .1 .1 .1 .0) (c .before .before .before .before .before .before .before .before .before .before .turn .last .1 .1 .1 .1 .0) (c .before .before .before .before .before .before .before .before .before .before .turn .last .1 .1 .1 .1 .1 .0) (c .before .before .before .before .before .before .before .before .before .before .turn .last .1 .1 .1 .1 .1 .1 .0)) (c .before .before .before .before .before .before .before .before .before .before .before .before .before .before .before .before .before .before .before .before .before .loop .inv .3 (omega arith)) (c .before .before .before .before .before .before .before .before .before .before .turn .ensures .ended e), c .before .before .before .before .before .before .before .before .before .before .turn .kept .1 .1 .1 .1 .1 .1 .1 .0 ∙ c .before .before .before .before .before .before .before .before .before .before .before .before .before .before .before .before .before .before .before .before .before .loop .inv .5, c .before .before .before .before .before .before .before .before .before .before .turn .kept .1 .1 .1 .1 .1 .1 .1 .1 .0 ∙ c .before .before .before .before .before .before .before .before .before .before .before .before .before .before .before .before .before .before .before .before .before .loop .inv .6, c .before .before .before .before .before .before .before .before .before .before .turn .kept .0 ∙ c .before .before .before .before .before .before .before .before .before .before .before .before .before .before .before .before .before .before .before .before .before .loop .inv .7, c .before .before .before .before .before .before .before .before .before .before .turn .kept .1 .1 .1 .1 .1 .1 .1 .1 .1 .1 .0 ∙ c .before .before .before .before .before .before .before .before .before .before .before .before .before .before .before .before .before .before .before .before .before .loop .inv .8)
 
 loop-less-2 : tie.Need-loop-less-2 Inv-loop μ-loop
 loop-less-2 c = omega arith
 
 loop-again-2 : tie.Need-loop-again-2 Inv-loop μ-loop
-loop-again-2 c = (
-  c .before .before .before .before .before .before .before .before .before .before .turn .ensures .stands,
-  c .before .before .before .before .before .before .before .before .before .before .turn .ensures .few,
-  c .before .before .before .before .before .before .before .before .before .before .turn .ensures .unended,
-  λ e. sofar-more 1024 (storeOf 1024 (c .before .before .before .before .before .before .before .before .before .before .before .before .before .before .before .before .before .before .before .before .before .loop .states) (c .before .before .before .before .before .before .before .before .before .before .before .before .before .before .before .before .before .before .before .before .before .loop .links) (c .before .before .before .before .before .before .before .before .before .before .before .before .before .before .before .before .before .before .before .before .before .loop .leaders) (c .before .before .before .before .before .before .before .before .before .before .before .before .before .before .before .before .before .before .before .before .before .loop .holds) (c .before .before .before .before .before .before .before .before .before .before .before .before .before .before .before .before .before .before .before .before .before .loop .counts)) (take (c .before .before .before .before .before .before .before .before .before .before .before .before .before .before .before .before .before .before .before .before .before .loop .kept) (c .before .before .before .before .before .before .before .before .before .before .before .before .before .before .before .before .before .before .before .before .before .loop .buf)) (storeOf 1024 (c .before .before .before .before .before .before .before .before .before .before .turn .last .1 .1 .0) (c .before .before .before .before .before .before .before .before .before .before .turn .last .1 .1 .1 .0) (c .before .before .before .before .before .before .before .before .before .before .turn .last .1 .1 .1 .1 .0) (c .before .before .before .before .before .before .before .before .before .before .turn .last .1 .1 .1 .1 .1 .0) (c .before .before .before .before .before .before .before .before .before .before .turn .last .1 .1 .1 .1 .1 .1 .0)) (take (c .before .before .before .before .before .before .before .before .before .before .turn .result .kept) (c .before .before .before .before .before .before .before .before .before .before .turn .last .0)) (c .before .before .before .before .before .before .before .before .before .before .before .before .before .before .before .before .before .before .before .before .before .loop .inv .3 (c .before .before .before .before .before .before .before .before .before .before .before .before .before .before .before .before .before .before .before .before .before .loop .inv .8 (omega arith))) (c .before .before .before .before .before .before .before .before .before .before .turn .ensures .went e),
-  c .before .before .before .before .before .before .before .before .before .before .turn .kept .1 .1 .1 .1 .1 .1 .1 .0 ∙ c .before .before .before .before .before .before .before .before .before .before .before .before .before .before .before .before .before .before .before .before .before .loop .inv .4,
-  c .before .before .before .before .before .before .before .before .before .before .turn .kept .1 .1 .1 .1 .1 .1 .1 .1 .0 ∙ c .before .before .before .before .before .before .before .before .before .before .before .before .before .before .before .before .before .before .before .before .before .loop .inv .5,
-  c .before .before .before .before .before .before .before .before .before .before .turn .kept .0 ∙ c .before .before .before .before .before .before .before .before .before .before .before .before .before .before .before .before .before .before .before .before .before .loop .inv .6,
-  c .before .before .before .before .before .before .before .before .before .before .turn .kept .1 .1 .1 .1 .1 .1 .1 .1 .1 .1 .0 ∙ c .before .before .before .before .before .before .before .before .before .before .before .before .before .before .before .before .before .before .before .before .before .loop .inv .7,
-  λ h. absurd (omega arith),
-)
+loop-again-2 c = (c .before .before .before .before .before .before .before .before .before .before .turn .ensures .stands, c .before .before .before .before .before .before .before .before .before .before .turn .ensures .few, c .before .before .before .before .before .before .before .before .before .before .turn .ensures .unended, λ l. absurd (omega arith), λ e. sofar-over 1024 (storeOf 1024 (c .before .before .before .before .before .before .before .before .before .before .before .before .before .before .before .before .before .before .before .before .before .loop .states) (c .before .before .before .before .before .before .before .before .before .before .before .before .before .before .before .before .before .before .before .before .before .loop .links) (c .before .before .before .before .before .before .before .before .before .before .before .before .before .before .before .before .before .before .before .before .before .loop .leaders) (c .before .before .before .before .before .before .before .before .before .before .before .before .before .before .before .before .before .before .before .before .before .loop .holds) (c .before .before .before .before .before .before .before .before .before .before .before .before .before .before .before .before .before .before .before .before .before .loop .counts)) (take (c .before .before .before .before .before .before .before .before .before .before .before .before .before .before .before .before .before .before .before .before .before .loop .kept) (c .before .before .before .before .before .before .before .before .before .before .before .before .before .before .before .before .before .before .before .before .before .loop .buf)) (storeOf 1024 (c .before .before .before .before .before .before .before .before .before .before .turn .last .1 .1 .0) (c .before .before .before .before .before .before .before .before .before .before .turn .last .1 .1 .1 .0) (c .before .before .before .before .before .before .before .before .before .before .turn .last .1 .1 .1 .1 .0) (c .before .before .before .before .before .before .before .before .before .before .turn .last .1 .1 .1 .1 .1 .0) (c .before .before .before .before .before .before .before .before .before .before .turn .last .1 .1 .1 .1 .1 .1 .0)) (c .before .before .before .before .before .before .before .before .before .before .before .before .before .before .before .before .before .before .before .before .before .loop .inv .3 (omega arith)) (c .before .before .before .before .before .before .before .before .before .before .turn .ensures .ended e), c .before .before .before .before .before .before .before .before .before .before .turn .kept .1 .1 .1 .1 .1 .1 .1 .0 ∙ c .before .before .before .before .before .before .before .before .before .before .before .before .before .before .before .before .before .before .before .before .before .loop .inv .5, c .before .before .before .before .before .before .before .before .before .before .turn .kept .1 .1 .1 .1 .1 .1 .1 .1 .0 ∙ c .before .before .before .before .before .before .before .before .before .before .before .before .before .before .before .before .before .before .before .before .before .loop .inv .6, c .before .before .before .before .before .before .before .before .before .before .turn .kept .0 ∙ c .before .before .before .before .before .before .before .before .before .before .before .before .before .before .before .before .before .before .before .before .before .loop .inv .7, c .before .before .before .before .before .before .before .before .before .before .turn .kept .1 .1 .1 .1 .1 .1 .1 .1 .1 .1 .0 ∙ c .before .before .before .before .before .before .before .before .before .before .before .before .before .before .before .before .before .before .before .before .before .loop .inv .8)
 
-array-share-prefix-buf : tie.Need-array-share-prefix-buf Inv-loop μ-loop
-array-share-prefix-buf c = omega (arith, c .before .before .loop .inv .1, c .before .before .loop .inv .6)
+slice-aggregate-close : tie.Need-slice-aggregate-close Inv-loop μ-loop
+slice-aggregate-close c = sym (c .before .before .before .loop .inv .0 .ready .sized .base .states)
 
-slice-aggregate-end : tie.Need-slice-aggregate-end Inv-loop μ-loop
-slice-aggregate-end c = sym (length-take-le (c .before .before .before .loop .kept) (c .before .before .before .loop .buf) (omega (arith, c .before .before .before .loop .inv .1, c .before .before .before .loop .inv .6)))
+slice-aggregate-close-2 : tie.Need-slice-aggregate-close-2 Inv-loop μ-loop
+slice-aggregate-close-2 c = sym (c .before .before .before .before .loop .inv .0 .ready .sized .base .links)
 
-slice-aggregate-end-2 : tie.Need-slice-aggregate-end-2 Inv-loop μ-loop
-slice-aggregate-end-2 c = sym (c .before .before .before .before .loop .inv .0 .ready .sized .base .states)
+slice-aggregate-close-3 : tie.Need-slice-aggregate-close-3 Inv-loop μ-loop
+slice-aggregate-close-3 c = sym (c .before .before .before .before .before .loop .inv .0 .ready .sized .leaders)
 
-slice-aggregate-end-3 : tie.Need-slice-aggregate-end-3 Inv-loop μ-loop
-slice-aggregate-end-3 c = sym (c .before .before .before .before .before .loop .inv .0 .ready .sized .base .links)
+slice-aggregate-close-4 : tie.Need-slice-aggregate-close-4 Inv-loop μ-loop
+slice-aggregate-close-4 c = sym (c .before .before .before .before .before .before .loop .inv .0 .ready .sized .base .holds)
 
-slice-aggregate-end-4 : tie.Need-slice-aggregate-end-4 Inv-loop μ-loop
-slice-aggregate-end-4 c = sym (c .before .before .before .before .before .before .loop .inv .0 .ready .sized .leaders)
+slice-aggregate-close-5 : tie.Need-slice-aggregate-close-5 Inv-loop μ-loop
+slice-aggregate-close-5 c = sym (c .before .before .before .before .before .before .before .loop .inv .0 .ready .sized .counts)
 
-slice-aggregate-end-5 : tie.Need-slice-aggregate-end-5 Inv-loop μ-loop
-slice-aggregate-end-5 c = sym (c .before .before .before .before .before .before .before .loop .inv .0 .ready .sized .base .holds)
+slice-aggregate-close-6 : tie.Need-slice-aggregate-close-6 Inv-loop μ-loop
+slice-aggregate-close-6 c = sym (c .before .before .before .before .before .before .before .before .loop .inv .8)
 
-slice-aggregate-end-6 : tie.Need-slice-aggregate-end-6 Inv-loop μ-loop
-slice-aggregate-end-6 c = sym (c .before .before .before .before .before .before .before .before .loop .inv .0 .ready .sized .counts)
-
-slice-aggregate-end-7 : tie.Need-slice-aggregate-end-7 Inv-loop μ-loop
-slice-aggregate-end-7 c = sym (c .before .before .before .before .before .before .before .before .before .loop .inv .4)
-
-slice-aggregate-end-8 : tie.Need-slice-aggregate-end-8 Inv-loop μ-loop
-slice-aggregate-end-8 c = sym (c .before .before .before .before .before .before .before .before .before .before .loop .inv .5)
-
-slice-aggregate-end-9 : tie.Need-slice-aggregate-end-9 Inv-loop μ-loop
-slice-aggregate-end-9 c = sym (c .before .before .before .before .before .before .before .before .before .before .before .loop .inv .7)
-
-end-requires : tie.Need-end-requires Inv-loop μ-loop
-end-requires c κs = (c .before .before .before .before .before .before .before .before .before .before .before .loop .inv .0, omega (arith, c .before .before .before .before .before .before .before .before .before .before .before .loop .inv .7), no-end-front (c .before .before .before .before .before .before .before .before .before .before .before .loop .buf) (c .before .before .before .before .before .before .before .before .before .before .before .loop .kept) (omega (arith, c .before .before .before .before .before .before .before .before .before .before .before .loop .inv .1, c .before .before .before .before .before .before .before .before .before .before .before .loop .inv .6)) (c .before .before .before .before .before .before .before .before .before .before .before .loop .inv .2))
+close-requires : tie.Need-close-requires Inv-loop μ-loop
+close-requires c κs = (c .before .before .before .before .before .before .before .before .loop .inv .0 .ready, omega (arith, c .before .before .before .before .before .before .before .before .loop .inv .8))
 
 array-share-prefix-out : tie.Need-array-share-prefix-out Inv-loop μ-loop
-array-share-prefix-out c = omega (arith, c .before .before .before .before .before .before .before .before .end .ensures .0)
+array-share-prefix-out c = omega (arith, c .before .close .ensures .1, c .before .close .kept .1 .1 .1 .1 .1 .1 .0, c .before .before .before .before .before .before .before .before .before .before .loop .inv .8)
 
 slice-aggregate-write-all : tie.Need-slice-aggregate-write-all Inv-loop μ-loop
-slice-aggregate-write-all c = sym (length-take-le (c .before .before .before .before .before .before .before .before .before .end .result) (c .before .before .before .before .before .before .before .before .before .end .last .1 .1 .1 .1 .1 .1 .1 .1 .1 .1 .0) (c .before .before .before .before .before .before .before .before .before .end .ensures .0))
+slice-aggregate-write-all c = sym (length-take-le (c .before .before .close .result) (c .before .before .close .last .1 .1 .1 .1 .1 .1 .0) (omega (arith, c .before .before .close .ensures .1, c .before .before .close .kept .1 .1 .1 .1 .1 .1 .0, c .before .before .before .before .before .before .before .before .before .before .before .loop .inv .8)))
 
 write-all-requires : tie.Need-write-all-requires Inv-loop μ-loop
 write-all-requires c κs = tt
@@ -161,17 +127,13 @@ main-spec =
     loop-again
     loop-less-2
     loop-again-2
-    array-share-prefix-buf
-    slice-aggregate-end
-    slice-aggregate-end-2
-    slice-aggregate-end-3
-    slice-aggregate-end-4
-    slice-aggregate-end-5
-    slice-aggregate-end-6
-    slice-aggregate-end-7
-    slice-aggregate-end-8
-    slice-aggregate-end-9
-    end-requires
+    slice-aggregate-close
+    slice-aggregate-close-2
+    slice-aggregate-close-3
+    slice-aggregate-close-4
+    slice-aggregate-close-5
+    slice-aggregate-close-6
+    close-requires
     array-share-prefix-out
     slice-aggregate-write-all
     write-all-requires

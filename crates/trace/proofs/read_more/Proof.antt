@@ -1,6 +1,10 @@
--- `trace::read_more` leaves the kept bytes as they are: only the part behind them is lent to the read. Assumes nothing.
-use Rattle.trace.specs.Turned.{behind-read}
+-- `trace::read_more` leaves the kept bytes as they are: only the part behind them is lent to the read, and byte 10 is put behind them. Assumes nothing.
+use native.Mathlib.Omega.{arith}
 use borrow.Author.Needs.{needs}
+use Rattle.trace.specs.Turned.{behind-on, behind-none, behind-over, read-size, read-same, read-inside}
+use lib.ListN.{length}
+use Prim.Native.Nat.{_-_, _≤_}
+use borrow.Rule.Slice.PartMut.{putMid}
 use Rattle.trace.proofs.read_more.Statement.{statement}
 use Rattle.trace.proofs.read_more.Tie as tie
 
@@ -28,11 +32,32 @@ part-count-end c = search needs
 count-requires : tie.Need-count-requires
 count-requires c κs = search needs
 
+add-t13 : tie.Need-add-t13
+add-t13 c = search needs
+
 same-length : tie.Need-same-length
 same-length c = search needs
 
 returns : tie.Need-returns
-returns c = behind-read (c .before .before .before .before .before .before .before .before .args .buf .now) (c .before .before .before .before .before .read .last .1 .0) (c .before .before .before .before .before .before .before .before .args .kept) (c .count .result) (c .before .before .before .before .before .before .before .before .pre) (c .before .before .before .before .before .read .kept .1 .0) (c .count .ensures .0 .0)
+returns c = behind-on (c .before .before .before .before .before .before .before .before .before .args .buf .now) (putMid (c .before .before .before .before .before .before .before .before .before .args .kept) (length (c .before .before .before .before .before .before .before .before .before .args .buf .now) - (c .before .before .before .before .before .before .before .before .before .args .kept)) (c .before .before .before .before .before .before .before .before .before .args .buf .now) (c .before .before .before .before .before .before .read .last .1 .0)) (c .before .before .before .before .before .before .before .before .before .args .kept) (read-size (c .before .before .before .before .before .before .before .before .before .args .buf .now) (c .before .before .before .before .before .before .read .last .1 .0) (c .before .before .before .before .before .before .before .before .before .args .kept) (omega (arith, c .before .before .before .before .before .before .before .before .before .pre)) (c .before .before .before .before .before .before .read .kept .1 .0)) (read-same (c .before .before .before .before .before .before .before .before .before .args .buf .now) (c .before .before .before .before .before .before .read .last .1 .0) (c .before .before .before .before .before .before .before .before .before .args .kept) (omega (arith, c .before .before .before .before .before .before .before .before .before .pre)) (c .before .before .before .before .before .before .read .kept .1 .0)) (c .before .count .result) (read-inside (c .before .before .before .before .before .before .before .before .before .args .buf .now) (c .before .before .before .before .before .before .read .last .1 .0) (c .before .before .before .before .before .before .before .before .before .args .kept) (omega (arith, c .before .before .before .before .before .before .before .before .before .pre)) (c .before .before .before .before .before .before .read .kept .1 .0) (c .before .count .result) (c .before .count .ensures .0 .0))
+
+same-length-2 : tie.Need-same-length-2
+same-length-2 c = search needs
+
+returns-2 : tie.Need-returns-2
+returns-2 c = behind-none (c .before .before .before .before .before .before .before .before .before .before .args .buf .now) (putMid (c .before .before .before .before .before .before .before .before .before .before .args .kept) (length (c .before .before .before .before .before .before .before .before .before .before .args .buf .now) - (c .before .before .before .before .before .before .before .before .before .before .args .kept)) (c .before .before .before .before .before .before .before .before .before .before .args .buf .now) (c .before .before .before .before .before .before .before .read .last .1 .0)) (c .before .before .before .before .before .before .before .before .before .before .args .kept) (read-size (c .before .before .before .before .before .before .before .before .before .before .args .buf .now) (c .before .before .before .before .before .before .before .read .last .1 .0) (c .before .before .before .before .before .before .before .before .before .before .args .kept) (omega (arith, c .before .before .before .before .before .before .before .before .before .before .pre)) (c .before .before .before .before .before .before .before .read .kept .1 .0)) (read-same (c .before .before .before .before .before .before .before .before .before .before .args .buf .now) (c .before .before .before .before .before .before .before .read .last .1 .0) (c .before .before .before .before .before .before .before .before .before .before .args .kept) (omega (arith, c .before .before .before .before .before .before .before .before .before .before .pre)) (c .before .before .before .before .before .before .before .read .kept .1 .0)) (c .if2 .taken)
+
+slice-write-buf : tie.Need-slice-write-buf
+slice-write-buf c = search needs
+
+add-t6 : tie.Need-add-t6
+add-t6 c = search needs
+
+same-length-3 : tie.Need-same-length-3
+same-length-3 c = search needs
+
+returns-3 : tie.Need-returns-3
+returns-3 c = behind-over (c .before .before .before .before .before .before .before .before .before .before .args .buf .now) (putMid (c .before .before .before .before .before .before .before .before .before .before .args .kept) (length (c .before .before .before .before .before .before .before .before .before .before .args .buf .now) - (c .before .before .before .before .before .before .before .before .before .before .args .kept)) (c .before .before .before .before .before .before .before .before .before .before .args .buf .now) (c .before .before .before .before .before .before .before .read .last .1 .0)) (c .before .before .before .before .before .before .before .before .before .before .args .kept) (read-size (c .before .before .before .before .before .before .before .before .before .before .args .buf .now) (c .before .before .before .before .before .before .before .read .last .1 .0) (c .before .before .before .before .before .before .before .before .before .before .args .kept) (omega (arith, c .before .before .before .before .before .before .before .before .before .before .pre)) (c .before .before .before .before .before .before .before .read .kept .1 .0)) (read-same (c .before .before .before .before .before .before .before .before .before .before .args .buf .now) (c .before .before .before .before .before .before .before .read .last .1 .0) (c .before .before .before .before .before .before .before .before .before .before .args .kept) (omega (arith, c .before .before .before .before .before .before .before .before .before .before .pre)) (c .before .before .before .before .before .before .before .read .kept .1 .0)) (omega (arith, c .if2 .left)) (omega (arith, c .before .before .before .before .before .before .before .before .before .before .pre, read-size (c .before .before .before .before .before .before .before .before .before .before .args .buf .now) (c .before .before .before .before .before .before .before .read .last .1 .0) (c .before .before .before .before .before .before .before .before .before .before .args .kept) (omega (arith, c .before .before .before .before .before .before .before .before .before .before .pre)) (c .before .before .before .before .before .before .before .read .kept .1 .0)))
 
 pub read-more-spec : {M : Type 1} → statement M
 read-more-spec =
@@ -46,5 +71,12 @@ read-more-spec =
     part-count-start
     part-count-end
     count-requires
+    add-t13
     same-length
-    returns)
+    returns
+    same-length-2
+    returns-2
+    slice-write-buf
+    add-t6
+    same-length-3
+    returns-3)

@@ -1,28 +1,26 @@
 -- `target_word` takes one space and a target, by the byte at the cursor. Assumes nothing.
 use mathlib.Core.Path.{sym, _∙_}
 use native.Mathlib.Omega.{arith}
-use Rattle.lines.specs.Says.{target-space, target-other, target-word-end}
+use borrow.Author.Needs.{needs}
+use Rattle.lines.specs.Says.{target-space, target-other}
 use Rattle.lines.proofs.Cursor.target_word.Statement.{statement}
 use Rattle.lines.proofs.Cursor.target_word.Tie as tie
 
-shared-slice-read-if2 : tie.Need-shared-slice-read-if2
-shared-slice-read-if2 c = omega arith
+shared-slice-read-if1 : tie.Need-shared-slice-read-if1
+shared-slice-read-if1 c = search needs
 
-add-t9 : tie.Need-add-t9
-add-t9 c = omega arith
+add-t7 : tie.Need-add-t7
+add-t7 c = search needs
 
 target-requires : tie.Need-target-requires
-target-requires c κs = tt
+target-requires c κs = (c .before .before .before .pre .1 (c .before .before .before .args .self .at) (c .before .before .before .pre .0) (λ e. omega (arith, c .if1 .taken)), c .before .before .before .pre .1)
 
 returns : tie.Need-returns
-returns c = c .target .ensures ∙ sym (target-space _ _ (c .before .before .before .if1 .taken) (c .before .if2 .taken))
+returns c = (c .target .ensures .0 ∙ sym (target-space _ _ (c .before .before .before .before .pre .0) (c .before .if1 .taken)), c .target .ensures .1)
 
 returns-2 : tie.Need-returns-2
-returns-2 c = sym (target-other _ _ (c .before .before .if1 .taken) (c .if2 .left))
-
-returns-3 : tie.Need-returns-3
-returns-3 c = sym (target-word-end _ _ (c .if1 .left))
+returns-2 c = (sym (target-other _ _ (c .before .before .before .pre .0) (c .if1 .left)), omega (arith, c .before .before .before .pre .0))
 
 pub target-word-spec : {M : Type 1} → statement M
 target-word-spec =
-    tie.close (tie.spec shared-slice-read-if2 add-t9 target-requires returns returns-2 returns-3)
+    tie.close (tie.spec shared-slice-read-if1 add-t7 target-requires returns returns-2)

@@ -1,0 +1,53 @@
+-- `reader::whole` goes back to the last byte 10. Assumes nothing.
+use Prim.Native.Nat.{_≤_}
+use native.Mathlib.Omega.{arith}
+use denote.Ref.{now}
+use lib.ListN.{length}
+use Rattle.reader.specs.Lines.{NoEnd, no-end-none, no-end-back, whole-at, whole-none}
+use Rattle.reader.proofs.whole.Statement.{statement}
+use Rattle.reader.proofs.whole.Tie as tie
+
+abbrev Inv-loop : tie.InvT-loop
+Inv-loop text r₀ r = (r ≤ length text) × NoEnd text r (length text)
+
+abbrev μ-loop : tie.MeasureT-loop
+μ-loop text r₀ r = r
+
+loop-holds : tie.Need-loop-holds Inv-loop μ-loop
+loop-holds c = (omega arith, no-end-none (now (c .args .text)) (length (now (c .args .text))))
+
+sub-if1 : tie.Need-sub-if1 Inv-loop μ-loop
+sub-if1 c = omega arith
+
+shared-slice-read-if1 : tie.Need-shared-slice-read-if1 Inv-loop μ-loop
+shared-slice-read-if1 c = omega (arith, c .before .before .loop .inv .0)
+
+returns : tie.Need-returns Inv-loop μ-loop
+returns c = whole-at (now (c .before .before .before .before .args .text)) (c .before .before .before .loop .r) (omega arith) (c .before .before .before .loop .inv .0) (c .if1 .taken) (c .before .before .before .loop .inv .1)
+
+sub-r : tie.Need-sub-r Inv-loop μ-loop
+sub-r c = omega arith
+
+loop-less : tie.Need-loop-less Inv-loop μ-loop
+loop-less c = omega arith
+
+loop-again : tie.Need-loop-again Inv-loop μ-loop
+loop-again c = (omega arith, no-end-back (now (c .before .before .before .before .args .text)) (c .before .before .before .loop .r) (omega arith) (c .if1 .left) (c .before .before .before .loop .inv .1))
+
+returns-2 : tie.Need-returns-2 Inv-loop μ-loop
+returns-2 c = whole-none (now (c .before .before .args .text)) (c .before .loop .r) (omega arith) (c .before .loop .inv .1)
+
+pub whole-spec : {M : Type 1} → statement M
+whole-spec =
+    tie.close
+    (tie.spec
+    Inv-loop
+    μ-loop
+    loop-holds
+    sub-if1
+    shared-slice-read-if1
+    returns
+    sub-r
+    loop-less
+    loop-again
+    returns-2)
