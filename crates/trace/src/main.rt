@@ -7,6 +7,7 @@ ghost use Rattle.reader.specs.Answered.{Stands};
 ghost use Rattle.reader.specs.Lines.{NoEnd};
 ghost use Rattle.trace.specs.Served.{Served};
 ghost use Rattle.trace.specs.Turned.{Behind, Turned};
+use libc::STDERR_FILENO;
 use libc::STDIN_FILENO;
 use libc::STDOUT_FILENO;
 
@@ -160,7 +161,8 @@ fn turn(
     }
 }
 
-fn main() {
+// Answers the whole trace.
+fn run() {
     let mut states = [0u8; 1024];
     let mut links = [65535u16; 4096];
     let mut leaders = [65535u16; 1024];
@@ -209,5 +211,14 @@ fn main() {
             0,
         );
         io::write_all(STDOUT_FILENO, &out[..size]);
+    }
+}
+
+// The program takes no arguments; called with one it says how it is called.
+fn main() {
+    if 1 < os::arg_count() {
+        io::write_all(STDERR_FILENO, b"usage: trace < TRACE\n");
+    } else {
+        run();
     }
 }

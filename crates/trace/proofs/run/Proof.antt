@@ -1,4 +1,4 @@
--- `trace::main` starts with the empty store and keeps it standing from turn to turn; what it goes on with, and what it ends with, is what 01 gives for all that was read. Assumes nothing.
+-- `trace::run` starts with the empty store and keeps it standing from turn to turn; what it goes on with, and what it ends with, is what 01 gives for all that was read. Assumes nothing.
 use Prim.Native.Nat.{ℕ, _≤_, _<_}
 use mathlib.Core.Path.{_≡_, refl, sym, _∙_}
 use mathlib.Core.Bool.{true}
@@ -10,8 +10,8 @@ use Rattle.reader.specs.Answered.{Stands}
 use Rattle.reader.specs.Lines.{NoEnd}
 use Rattle.carrying.specs.Sofar.{Sofar, sofar-more, Finished, sofar-over}
 use Rattle.trace.specs.Started.{started-stands, started-sofar}
-use Rattle.trace.proofs.main.Statement.{statement}
-use Rattle.trace.proofs.main.Tie as tie
+use Rattle.trace.proofs.run.Statement.{statement}
+use Rattle.trace.proofs.run.Tie as tie
 
 abbrev Inv-loop : tie.InvT-loop
 Inv-loop states₀ links₀ leaders₀ holds₀ counts₀ list₀ work₀ buf₀ out₀ kept₀ from₀ done₀ turns₀ states links leaders holds counts list work buf out kept from done turns =
@@ -105,8 +105,8 @@ returns c = tt
 returns-2 : tie.Need-returns-2 Inv-loop μ-loop
 returns-2 c = tt
 
-pub main-spec : {M : Type 1} → statement M
-main-spec =
+pub run-spec : {M : Type 1} → statement M
+run-spec =
     tie.close
     (tie.spec
     Inv-loop
