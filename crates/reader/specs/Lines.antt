@@ -54,6 +54,25 @@ no-end-more text at end h d i a b e = go (ℕ-discrete i end)
     go (yes x) = d (subst (λ (j : ℕ). getD text j 0 ≡ 10) x e)
     go (no x) = h i a (omega arith) e
 
+-- block after block
+pub no-end-join : (text : List ℕ) (at mid end : ℕ) → NoEnd text at mid → NoEnd text mid end → NoEnd text at end
+no-end-join text at mid end a b i l h e = by-test (leb mid i) refl
+  where
+    by-test : (t : Bool) → leb mid i ≡ t → ⊥
+    by-test true x = b i (leb-true mid i x) h e
+    by-test false x = a i l (leb-false mid i x) e
+
+pub no-end-back-block : (text : List ℕ) (r : ℕ) → 64 ≤ r → NoEnd text (r - 64) (r - 64 + 64) → NoEnd text r (length text) → NoEnd text (r - 64) (length text)
+no-end-back-block text r p a b = no-end-join text (r - 64) r (length text) (λ i l h. a i l (omega arith)) b
+
+-- a text does not end with a block in which no line ends
+pub block-inside : (text : List ℕ) (i : ℕ) → Closed text → i + 64 ≤ length text → NoEnd text i (i + 64) → i + 64 < length text
+block-inside text i c h u = let x : i + 63 + 1 < length text = c (i + 63) (omega arith) (u (i + 63) (omega arith) (omega arith)) in omega arith
+
+-- a byte more of a block in which no line ends so far
+pub block-more : (text : List ℕ) (at i : ℕ) (found : Bool) → (found ≡ false → NoEnd text at (at + i)) → (getD text (at + i) 0 ≡ 10 → ⊥) → found ≡ false → NoEnd text at (at + (i + 1))
+block-more text at i found h d e = let x : at + (i + 1) ≡ at + i + 1 = omega arith in subst (NoEnd text at) (sym x) (no-end-more text at (at + i) (h e) d)
+
 -- back from the end of a text
 no-end-first : (text : List ℕ) (r : ℕ) → (getD text r 0 ≡ 10 → ⊥) → NoEnd text (r + 1) (length text) → NoEnd text r (length text)
 no-end-first text r d h i a b e = go (ℕ-discrete i r)

@@ -1,5 +1,6 @@
 // The trace reader: a line in, a line out, on tables that are sound by proof.
 ghost use mathlib.Core.Path.{_≡_};
+ghost use mathlib.Core.Bool.{false};
 ghost use Prim.Native.Nat.{_+_, _≤_, _<_};
 ghost use lib.Dec.{eqb};
 ghost use lib.ListN.{length};
@@ -12,7 +13,7 @@ ghost use Rattle.obeying.specs.Obeyed.{replyOf};
 ghost use Rattle.answers.specs.Wrote.{Wrote};
 ghost use Rattle.answers.specs.Replies.{replyLine, freedIn};
 ghost use Rattle.reader.specs.Answered.{Stands, Answered};
-ghost use Rattle.reader.specs.Lines.{LineEnd, Whole};
+ghost use Rattle.reader.specs.Lines.{NoEnd, LineEnd, Whole};
 ghost use Rattle.reader.specs.Fed.{Feeding, Stopped};
 ghost use Rattle.reader.specs.Ended.{Totalled};
 use lines::Found;
@@ -82,23 +83,77 @@ pub struct Fed {
     pub from: usize,
 }
 
-// Where the line that starts at a place ends.
+// Whether one of the 64 bytes from a place on ends a line.
+fn ends(text: &[u8], at: usize) -> bool
+    requires { ⌜ at + 64 ≤ length (now text) ⌝ }
+    ensures { λ r. ⌜ (r ≡ false → NoEnd (now (text .entry)) at (at + 64)) ⌝ }
+{
+    let mut found = false;
+    let mut i = 0;
+    while i < 64 {
+        if text[at + i] == 10 {
+            found = true;
+        }
+        i += 1;
+    }
+    found
+}
+
+// Passes blocks in which no line ends.
+fn pass(text: &[u8], at: usize) -> usize
+    requires { ⌜ (at < length (now text)) × Closed (now text) ⌝ }
+    ensures { λ r. ⌜ (at ≤ r) × (r < length (now (text .entry))) × NoEnd (now (text .entry)) at r ⌝ }
+{
+    let mut i = at;
+    while 64 <= text.len() - i {
+        if ends(text, i) {
+            return i;
+        }
+        i += 64;
+    }
+    i
+}
+
+// Passes blocks in which no line ends, from the end of a text back.
+fn pass_back(text: &[u8]) -> usize
+    ensures { λ r. ⌜ (r ≤ length (now (text .entry))) × NoEnd (now (text .entry)) r (length (now (text .entry))) ⌝ }
+{
+    let mut r = text.len();
+    while 64 <= r {
+        if ends(text, r - 64) {
+            return r;
+        }
+        r -= 64;
+    }
+    r
+}
+
+// Where the line that starts at a place ends: most end soon, so the first 16 bytes are looked at one by one.
 fn line_end(text: &[u8], at: usize) -> usize
     requires { ⌜ (at < length (now text)) × Closed (now text) ⌝ }
     ensures { λ r. ⌜ LineEnd (now (text .entry)) at r ⌝ }
 {
     let mut i = at;
-    while text[i] != 10 {
+    let mut k: usize = 0;
+    while k < 16 {
+        if text[i] == 10 {
+            return i;
+        }
         i += 1;
+        k += 1;
     }
-    i
+    let mut j = pass(text, i);
+    while text[j] != 10 {
+        j += 1;
+    }
+    j
 }
 
 // How many bytes the whole lines of a text are.
 pub fn whole(text: &[u8]) -> usize
     ensures { λ r. ⌜ Whole (now (text .entry)) r ⌝ }
 {
-    let mut r = text.len();
+    let mut r = pass_back(text);
     while 0 < r {
         if text[r - 1] == 10 {
             return r;

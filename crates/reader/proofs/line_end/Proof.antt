@@ -1,37 +1,85 @@
--- `reader::line_end` stops at the first byte 10; the last byte of the text is one. Assumes nothing.
-use Prim.Native.Nat.{_≤_, _<_, _-_}
+-- `reader::line_end` stops at the first byte 10, passing blocks without one; the last byte of the text is one. Assumes nothing.
+use Prim.Native.Nat.{_-_, _≤_, _<_}
 use native.Mathlib.Omega.{arith}
 use denote.Ref.{now}
 use lib.ListN.{length}
-use Rattle.reader.specs.Lines.{NoEnd, no-end-none, no-end-more}
+use Rattle.reader.specs.Lines.{NoEnd, no-end-none, no-end-more, no-end-join}
 use Rattle.reader.proofs.line_end.Statement.{statement}
 use Rattle.reader.proofs.line_end.Tie as tie
 
 abbrev Inv-loop : tie.InvT-loop
-Inv-loop text at i₀ i = (at ≤ i) × (i < length text) × NoEnd text at i
+Inv-loop text at i₀ k₀ i k = (at ≤ i) × (i < length text) × NoEnd text at i
 
 abbrev μ-loop : tie.MeasureT-loop
-μ-loop text at i₀ i = length text - i
+μ-loop text at i₀ k₀ i k = 16 - k
 
-loop-holds : tie.Need-loop-holds Inv-loop μ-loop
-loop-holds c = (omega arith, c .pre .0, no-end-none (now (c .args .text)) (c .args .at))
+abbrev Inv-loop2 : tie.InvT-loop2
+Inv-loop2 text at i k j₀ j = (at ≤ j) × (j < length text) × NoEnd text at j
 
-shared-slice-read-if1 : tie.Need-shared-slice-read-if1 Inv-loop μ-loop
-shared-slice-read-if1 c = c .before .loop .inv .1
+abbrev μ-loop2 : tie.MeasureT-loop2
+μ-loop2 text at i k j₀ j = length text - j
 
-add-i : tie.Need-add-i Inv-loop μ-loop
-add-i c = omega (arith, c .before .before .loop .inv .1, c .before .before .before .good)
+loop-holds : tie.Need-loop-holds Inv-loop μ-loop Inv-loop2 μ-loop2
+loop-holds c = (omega arith, c .before .pre .0, no-end-none (now (c .before .args .text)) (c .before .args .at))
 
-loop-less : tie.Need-loop-less Inv-loop μ-loop
-loop-less c = omega (arith, c .before .before .loop .inv .1)
+shared-slice-read-if1 : tie.Need-shared-slice-read-if1 Inv-loop μ-loop Inv-loop2 μ-loop2
+shared-slice-read-if1 c = c .before .before .loop .inv .1
 
-loop-again : tie.Need-loop-again Inv-loop μ-loop
-loop-again c = (omega arith, c .before .before .before .pre .1 (c .before .before .loop .i) (c .before .before .loop .inv .1) (c .if1 .taken), no-end-more (now (c .before .before .before .args .text)) (c .before .before .before .args .at) (c .before .before .loop .i) (c .before .before .loop .inv .2) (c .if1 .taken))
+returns : tie.Need-returns Inv-loop μ-loop Inv-loop2 μ-loop2
+returns c = record { after = c .before .before .before .loop .inv .0; inside = c .before .before .before .loop .inv .1; before = c .before .before .before .loop .inv .2; is = c .if1 .taken }
 
-returns : tie.Need-returns Inv-loop μ-loop
-returns c = record { after = c .before .before .loop .inv .0; inside = c .before .before .loop .inv .1; before = c .before .before .loop .inv .2; is = c .if1 .left }
+add-i : tie.Need-add-i Inv-loop μ-loop Inv-loop2 μ-loop2
+add-i c = omega (arith, c .before .before .before .loop .inv .1, c .before .before .before .before .before .good)
+
+add-k : tie.Need-add-k Inv-loop μ-loop Inv-loop2 μ-loop2
+add-k c = omega arith
+
+loop-less : tie.Need-loop-less Inv-loop μ-loop Inv-loop2 μ-loop2
+loop-less c = omega arith
+
+loop-again : tie.Need-loop-again Inv-loop μ-loop Inv-loop2 μ-loop2
+loop-again c = (omega (arith, c .before .before .before .loop .inv .0), c .before .before .before .before .before .pre .1 (c .before .before .before .loop .i) (c .before .before .before .loop .inv .1) (c .if1 .left), no-end-more (now (c .before .before .before .before .before .args .text)) (c .before .before .before .before .before .args .at) (c .before .before .before .loop .i) (c .before .before .before .loop .inv .2) (c .if1 .left))
+
+pass-requires : tie.Need-pass-requires Inv-loop μ-loop Inv-loop2 μ-loop2
+pass-requires c κs = (c .before .loop .inv .1, c .before .before .before .pre .1)
+
+loop2-holds : tie.Need-loop2-holds Inv-loop μ-loop Inv-loop2 μ-loop2
+loop2-holds c = (omega (arith, c .before .before .loop .inv .0, c .pass .ensures .0), c .pass .ensures .1, no-end-join (now (c .before .before .before .before .args .text)) (c .before .before .before .before .args .at) (c .before .before .loop .i) (c .pass .result) (c .before .before .loop .inv .2) (c .pass .ensures .2))
+
+shared-slice-read-if2 : tie.Need-shared-slice-read-if2 Inv-loop μ-loop Inv-loop2 μ-loop2
+shared-slice-read-if2 c = c .before .loop2 .inv .1
+
+add-j : tie.Need-add-j Inv-loop μ-loop Inv-loop2 μ-loop2
+add-j c = omega (arith, c .before .before .loop2 .inv .1, c .before .before .before .before .before .before .before .good)
+
+loop2-less : tie.Need-loop2-less Inv-loop μ-loop Inv-loop2 μ-loop2
+loop2-less c = omega (arith, c .before .before .loop2 .inv .1)
+
+loop2-again : tie.Need-loop2-again Inv-loop μ-loop Inv-loop2 μ-loop2
+loop2-again c = (omega (arith, c .before .before .loop2 .inv .0), c .before .before .before .before .before .before .before .pre .1 (c .before .before .loop2 .j) (c .before .before .loop2 .inv .1) (c .if2 .taken), no-end-more (now (c .before .before .before .before .before .before .before .args .text)) (c .before .before .before .before .before .before .before .args .at) (c .before .before .loop2 .j) (c .before .before .loop2 .inv .2) (c .if2 .taken))
+
+returns-2 : tie.Need-returns-2 Inv-loop μ-loop Inv-loop2 μ-loop2
+returns-2 c = record { after = c .before .before .loop2 .inv .0; inside = c .before .before .loop2 .inv .1; before = c .before .before .loop2 .inv .2; is = c .if2 .left }
 
 pub line-end-spec : {M : Type 1} → statement M
 line-end-spec =
     tie.close
-    (tie.spec Inv-loop μ-loop loop-holds shared-slice-read-if1 add-i loop-less loop-again returns)
+    (tie.spec
+    Inv-loop
+    μ-loop
+    Inv-loop2
+    μ-loop2
+    loop-holds
+    shared-slice-read-if1
+    returns
+    add-i
+    add-k
+    loop-less
+    loop-again
+    pass-requires
+    loop2-holds
+    shared-slice-read-if2
+    add-j
+    loop2-less
+    loop2-again
+    returns-2)

@@ -3,7 +3,7 @@ use Prim.Native.Nat.{_≤_}
 use native.Mathlib.Omega.{arith}
 use denote.Ref.{now}
 use lib.ListN.{length}
-use Rattle.reader.specs.Lines.{NoEnd, no-end-none, no-end-back, whole-at, whole-none}
+use Rattle.reader.specs.Lines.{NoEnd, no-end-back, whole-at, whole-none}
 use Rattle.reader.proofs.whole.Statement.{statement}
 use Rattle.reader.proofs.whole.Tie as tie
 
@@ -13,8 +13,11 @@ Inv-loop text r₀ r = (r ≤ length text) × NoEnd text r (length text)
 abbrev μ-loop : tie.MeasureT-loop
 μ-loop text r₀ r = r
 
+pass-back-requires : tie.Need-pass-back-requires Inv-loop μ-loop
+pass-back-requires c κs = tt
+
 loop-holds : tie.Need-loop-holds Inv-loop μ-loop
-loop-holds c = (omega arith, no-end-none (now (c .args .text)) (length (now (c .args .text))))
+loop-holds c = c .pass-back .ensures
 
 sub-if1 : tie.Need-sub-if1 Inv-loop μ-loop
 sub-if1 c = omega arith
@@ -23,7 +26,7 @@ shared-slice-read-if1 : tie.Need-shared-slice-read-if1 Inv-loop μ-loop
 shared-slice-read-if1 c = omega (arith, c .before .before .loop .inv .0)
 
 returns : tie.Need-returns Inv-loop μ-loop
-returns c = whole-at (now (c .before .before .before .before .args .text)) (c .before .before .before .loop .r) (omega arith) (c .before .before .before .loop .inv .0) (c .if1 .taken) (c .before .before .before .loop .inv .1)
+returns c = whole-at (now (c .before .before .before .before .before .before .args .text)) (c .before .before .before .loop .r) (omega arith) (c .before .before .before .loop .inv .0) (c .if1 .taken) (c .before .before .before .loop .inv .1)
 
 sub-r : tie.Need-sub-r Inv-loop μ-loop
 sub-r c = omega arith
@@ -32,10 +35,10 @@ loop-less : tie.Need-loop-less Inv-loop μ-loop
 loop-less c = omega arith
 
 loop-again : tie.Need-loop-again Inv-loop μ-loop
-loop-again c = (omega arith, no-end-back (now (c .before .before .before .before .args .text)) (c .before .before .before .loop .r) (omega arith) (c .if1 .left) (c .before .before .before .loop .inv .1))
+loop-again c = (omega arith, no-end-back (now (c .before .before .before .before .before .before .args .text)) (c .before .before .before .loop .r) (omega arith) (c .if1 .left) (c .before .before .before .loop .inv .1))
 
 returns-2 : tie.Need-returns-2 Inv-loop μ-loop
-returns-2 c = whole-none (now (c .before .before .args .text)) (c .before .loop .r) (omega arith) (c .before .loop .inv .1)
+returns-2 c = whole-none (now (c .before .before .before .before .args .text)) (c .before .loop .r) (omega arith) (c .before .loop .inv .1)
 
 pub whole-spec : {M : Type 1} → statement M
 whole-spec =
@@ -43,6 +46,7 @@ whole-spec =
     (tie.spec
     Inv-loop
     μ-loop
+    pass-back-requires
     loop-holds
     sub-if1
     shared-slice-read-if1

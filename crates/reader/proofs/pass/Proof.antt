@@ -1,0 +1,53 @@
+-- `reader::pass` passes blocks in which no line ends; the last byte of the text ends one. Assumes nothing.
+use Prim.Native.Nat.{_+_, _-_, _≤_, _<_}
+use native.Mathlib.Omega.{arith}
+use denote.Ref.{now}
+use lib.ListN.{length}
+use Rattle.reader.specs.Lines.{NoEnd, no-end-none, no-end-join, block-inside}
+use Rattle.reader.proofs.pass.Statement.{statement}
+use Rattle.reader.proofs.pass.Tie as tie
+
+abbrev Inv-loop : tie.InvT-loop
+Inv-loop text at i₀ i = (at ≤ i) × (i < length text) × NoEnd text at i
+
+abbrev μ-loop : tie.MeasureT-loop
+μ-loop text at i₀ i = length text - i
+
+loop-holds : tie.Need-loop-holds Inv-loop μ-loop
+loop-holds c = (omega arith, c .before .pre .0, no-end-none (now (c .before .args .text)) (c .before .args .at))
+
+sub-loop : tie.Need-sub-loop Inv-loop μ-loop
+sub-loop c = omega (arith, c .loop .inv .1)
+
+ends-requires : tie.Need-ends-requires Inv-loop μ-loop
+ends-requires c κs = omega (arith, c .before .loop .inv .1)
+
+returns : tie.Need-returns Inv-loop μ-loop
+returns c = c .before .before .before .loop .inv
+
+add-i : tie.Need-add-i Inv-loop μ-loop
+add-i c = omega (arith, c .before .before .before .loop .inv .1, c .before .before .before .before .before .good)
+
+loop-less : tie.Need-loop-less Inv-loop μ-loop
+loop-less c = omega (arith, c .before .before .before .loop .inv .1)
+
+loop-again : tie.Need-loop-again Inv-loop μ-loop
+loop-again c = (omega (arith, c .before .before .before .loop .inv .0), block-inside (now (c .before .before .before .before .before .args .text)) (c .before .before .before .loop .i) (c .before .before .before .before .before .pre .1) (omega (arith, c .before .before .before .loop .inv .1)) (c .before .ends .ensures (c .if1 .left)), no-end-join (now (c .before .before .before .before .before .args .text)) (c .before .before .before .before .before .args .at) (c .before .before .before .loop .i) (c .before .before .before .loop .i + 64) (c .before .before .before .loop .inv .2) (c .before .ends .ensures (c .if1 .left)))
+
+returns-2 : tie.Need-returns-2 Inv-loop μ-loop
+returns-2 c = c .before .loop .inv
+
+pub pass-spec : {M : Type 1} → statement M
+pass-spec =
+    tie.close
+    (tie.spec
+    Inv-loop
+    μ-loop
+    loop-holds
+    sub-loop
+    ends-requires
+    returns
+    add-i
+    loop-less
+    loop-again
+    returns-2)

@@ -1,0 +1,37 @@
+-- `reader::pass_back` passes blocks in which no line ends, from the end back. Assumes nothing.
+use Prim.Native.Nat.{_≤_}
+use native.Mathlib.Omega.{arith}
+use denote.Ref.{now}
+use lib.ListN.{length}
+use Rattle.reader.specs.Lines.{NoEnd, no-end-none, no-end-back-block}
+use Rattle.reader.proofs.pass_back.Statement.{statement}
+use Rattle.reader.proofs.pass_back.Tie as tie
+
+abbrev Inv-loop : tie.InvT-loop
+Inv-loop text r₀ r = (r ≤ length text) × NoEnd text r (length text)
+
+abbrev μ-loop : tie.MeasureT-loop
+μ-loop text r₀ r = r
+
+loop-holds : tie.Need-loop-holds Inv-loop μ-loop
+loop-holds c = (omega arith, no-end-none (now (c .before .args .text)) (length (now (c .before .args .text))))
+
+ends-requires : tie.Need-ends-requires Inv-loop μ-loop
+ends-requires c κs = omega (arith, c .before .loop .inv .0)
+
+returns : tie.Need-returns Inv-loop μ-loop
+returns c = c .before .before .before .loop .inv
+
+loop-less : tie.Need-loop-less Inv-loop μ-loop
+loop-less c = omega arith
+
+loop-again : tie.Need-loop-again Inv-loop μ-loop
+loop-again c = (omega (arith, c .before .before .before .loop .inv .0), no-end-back-block (now (c .before .before .before .before .before .args .text)) (c .before .before .before .loop .r) (omega arith) (c .before .ends .ensures (c .if1 .left)) (c .before .before .before .loop .inv .1))
+
+returns-2 : tie.Need-returns-2 Inv-loop μ-loop
+returns-2 c = c .before .loop .inv
+
+pub pass-back-spec : {M : Type 1} → statement M
+pass-back-spec =
+    tie.close
+    (tie.spec Inv-loop μ-loop loop-holds ends-requires returns loop-less loop-again returns-2)
