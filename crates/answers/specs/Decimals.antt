@@ -1,5 +1,5 @@
 -- Decimal numbers: how long they are, and their digits.
-use mathlib.Core.Path.{_≡_, refl, sym, ap}
+use mathlib.Core.Path.{_≡_, refl, sym, ap, _∙_}
 use mathlib.Core.Logic.{_⊎_, inl, inr, ⊎-elim}
 use mathlib.Core.Bool.{Bool, true, false}
 use mathlib.Core.List.{List, [], _∷_, _++_}
@@ -106,3 +106,12 @@ pub length-digits : (k v : ℕ) → length (digitsOf k v) ≡ k
 unfolding digitsOf
 length-digits zero v = refl
 length-digits (suc k) v = rw (length-append, length-digits k (v / 10)) (omega arith)
+
+-- of two and of three digits
+pub decimal-two : (v : ℕ) → 10 ≤ v → v < 100 → decimal v ≡ digitsOf 1 (v / 10) ++ digitsOf 1 v
+unfolding digitsOf
+decimal-two v l h = decimal-digits v ∙ ap (λ (k : ℕ). digitsOf k v) (sym (decimal-width 1 v (omega arith) (omega arith) (omega arith)))
+
+pub decimal-three : (v : ℕ) → 100 ≤ v → v < 1000 → decimal v ≡ digitsOf 1 (v / 10 / 10) ++ (digitsOf 1 (v / 10) ++ digitsOf 1 v)
+unfolding digitsOf
+decimal-three v l h = decimal-digits v ∙ ap (λ (k : ℕ). digitsOf k v) (sym (decimal-width 2 v (omega arith) (omega arith) (omega arith)))

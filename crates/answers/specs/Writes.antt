@@ -65,6 +65,10 @@ pub done-line : (l : List ℕ) (value freed : ℕ) → freed ≤ length l
 unfolding answerLine
 done-line l value freed h = rw (length-take-le freed l h)
 
+-- where nothing is given and nothing freed
+pub none-line : (l : List ℕ) (value freed : ℕ) → freed ≡ 0 → value ≡ none → answerLine 0 value (take freed l) ≡ answerLine 0 none []
+none-line l value freed e x = rw (e, x)
+
 pub refused-line : (number : ℕ)
     → answerLine number none [] ≡ decimal number ++ (32 ∷ (valueOr none ++ (32 ∷ (decimal 0 ++ (10 ∷ [])))))
 unfolding answerLine spaced

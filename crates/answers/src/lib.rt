@@ -90,6 +90,15 @@ fn put_digits(out: &mut [u8], at: usize, k: usize, v: u32) -> usize
     at + k
 }
 
+// The last decimal digit of a number.
+fn put_last(out: &mut [u8], at: usize, v: u32) -> usize
+    requires { ⌜ at < length (now out) ⌝ }
+    ensures { λ r. ⌜ Wrote (now (out .entry)) at (digitsOf 1 v) (now (out .exit)) r ⌝ }
+{
+    let d = (v % 10) as u8;
+    put_byte(out, at, 48 + d)
+}
+
 // A number in decimal, without leading zeros.
 pub fn put_number(out: &mut [u8], at: usize, v: u32) -> usize
     requires { ⌜ at + 10 ≤ length (now out) ⌝ }
@@ -99,6 +108,17 @@ pub fn put_number(out: &mut [u8], at: usize, v: u32) -> usize
     if v < 10 {
         let d = v as u8;
         return put_byte(out, at, 48 + d);
+    }
+    let tens = v / 10;
+    if v < 100 {
+        let at1 = put_last(out, at, tens);
+        return put_last(out, at1, v);
+    }
+    let hundreds = tens / 10;
+    if v < 1000 {
+        let at1 = put_last(out, at, hundreds);
+        let at2 = put_last(out, at1, tens);
+        return put_last(out, at2, v);
     }
     let k = width(v);
     put_digits(out, at, k, v)
@@ -143,12 +163,30 @@ fn put_freed(out: &mut [u8], at: usize, list: &[u16], freed: usize) -> usize
     next
 }
 
+// The line of a number, `-` and 0.
+fn put_none(out: &mut [u8], at: usize, number: u32) -> usize
+    requires { ⌜ at + 64 ≤ length (now out) ⌝ }
+    ensures { λ r. ⌜ Wrote (now (out .entry)) at (answerLine number none []) (now (out .exit)) r ⌝ }
+    ensures { λ r. ⌜ r ≤ at + 64 ⌝ }
+{
+    let at1 = put_number(out, at, number);
+    let at2 = put_byte(out, at1, 32);
+    let at3 = put_value(out, at2, Store::NONE);
+    let at4 = put_word(out, at3, 0);
+    put_byte(out, at4, 10)
+}
+
 // The line of an accepted command but look: `0`, value or `-`, number freed, then the freed numbers.
 fn put_done(out: &mut [u8], at: usize, value: u16, freed: u16, list: &[u16]) -> usize
     requires { ⌜ (freed ≤ length (now list)) × (at + 64 + 6 * freed ≤ length (now out)) ⌝ }
     ensures { λ r. ⌜ Wrote (now (out .entry)) at (answerLine 0 value (take freed (now (list .entry)))) (now (out .exit)) r ⌝ }
     ensures { λ r. ⌜ r ≤ at + 64 + 6 * freed ⌝ }
 {
+    if freed == 0 {
+        if value == Store::NONE {
+            return put_none(out, at, 0);
+        }
+    }
     let count = freed as u32;
     let size = freed as usize;
     let at1 = put_number(out, at, 0);
@@ -166,11 +204,7 @@ fn put_refused(out: &mut [u8], at: usize, refusal: Refusal) -> usize
     ensures { λ r. ⌜ r ≤ at + 64 ⌝ }
 {
     let number = refusal_number(refusal);
-    let at1 = put_number(out, at, number);
-    let at2 = put_byte(out, at1, 32);
-    let at3 = put_value(out, at2, Store::NONE);
-    let at4 = put_word(out, at3, 0);
-    put_byte(out, at4, 10)
+    put_none(out, at, number)
 }
 
 // The line of an answer, whose freed numbers are the first of the list.
