@@ -167,7 +167,6 @@ pub fn read(text: &[u8], at: usize) -> Found
 {
     let b = text[at];
     match b {
-        10 => Found::Other,
         110 => {
             if text[at + 1] == 10 {
                 Found::Right(Command::New, at + 2)
@@ -176,6 +175,12 @@ pub fn read(text: &[u8], at: usize) -> Found
             }
         }
         115 => set_line(text, at + 1),
-        _ => name_line(b, text, at + 1),
+        _ => {
+            if b == 10 {
+                Found::Other
+            } else {
+                name_line(b, text, at + 1)
+            }
+        }
     }
 }
