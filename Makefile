@@ -37,7 +37,7 @@ compare:
 fuzz:
 	@rt staticlib pieces | tail -n 1
 	@cd tests/doors && CARGO_TARGET_DIR=$(CURDIR)/target/tests cargo build --release --offline --quiet -j1
-	@tests/build-door target/staticlib target/tests/door
+	@tests/doors/build-door target/staticlib target/tests/door
 	@target/tests/release/doors --door "tests/x86 target/tests/door" --fuzz $(RUNS) --seed $(SEED)
 
 bench:

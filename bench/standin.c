@@ -1,6 +1,7 @@
 // The lent trace by the plain C of baseline.c. With calls.c under the names of libpieces.a it
 // stands in for that library, to try the benchmark and to check its C from outside.
 #define LENT_TRACE
+#include "../include/pieces.h"
 #include "baseline.c"
 
 static const uint8_t *lent;
@@ -21,7 +22,7 @@ static void give(const uint8_t *bytes, size_t n) {
 }
 
 uint64_t pieces_trace(const uint8_t *trace, size_t trace_len, uint8_t *out, size_t out_len) {
-    if (trace_len > 65536) return (1ull << 63) + 10;
+    if (trace_len > PIECES_TRACE) return (1ull << 63) + PIECES_LONG;
     lent = trace;
     lent_left = trace_len;
     room = out;
@@ -32,7 +33,7 @@ uint64_t pieces_trace(const uint8_t *trace, size_t trace_len, uint8_t *out, size
     run();
     if (given > out_len) {
         memset(out, 0, out_len);
-        return (1ull << 63) + 11;
+        return (1ull << 63) + PIECES_ROOM;
     }
     memset(out + given, 0, out_len - given);
     return given;

@@ -53,7 +53,7 @@ def by_door(doors, edits):
     edited(edits)
     library = build(STANDIN, BUILT, "-Awarnings")
     door = ROOM / "door"
-    if subprocess.run([TESTS / "build-door", library, door]).returncode != 0:
+    if subprocess.run([TESTS / "doors" / "build-door", library, door]).returncode != 0:
         sys.exit("the door does not build")
     return [doors, "--door", door, "--rounds", "1"]
 

@@ -53,9 +53,9 @@ in-width (suc k) (suc j) v i l h =
     let shorter : length (decimalIn k (v / 10)) ≡ suc j = in-width k j (v / 10) (omega arith) (omega arith) (omega arith) in
     rw (in-more k v (omega arith), length-append) (omega arith)
 
-pub decimal-width : (j v : ℕ) → j < 10 → 10 ^ j ≤ v → v < 10 ^ suc j → suc j ≡ length (decimal v)
+pub decimal-width : (j : ℕ) {v : ℕ} → j < 10 → 10 ^ j ≤ v → v < 10 ^ suc j → suc j ≡ length (decimal v)
 unfolding decimal
-decimal-width j v i l h = sym (in-width 10 j v i l h)
+decimal-width j {v} i l h = sym (in-width 10 j v i l h)
 
 -- at most k digits
 in-length : (k v : ℕ) → length (decimalIn k v) ≤ k
@@ -110,8 +110,8 @@ length-digits (suc k) v = rw (length-append, length-digits k (v / 10)) (omega ar
 -- of two and of three digits
 pub decimal-two : (v : ℕ) → 10 ≤ v → v < 100 → decimal v ≡ digitsOf 1 (v / 10) ++ digitsOf 1 v
 unfolding digitsOf
-decimal-two v l h = decimal-digits v ∙ ap (λ (k : ℕ). digitsOf k v) (sym (decimal-width 1 v (omega arith) (omega arith) (omega arith)))
+decimal-two v l h = decimal-digits v ∙ ap (λ (k : ℕ). digitsOf k v) (sym (decimal-width 1 {v = v} (omega arith) (omega arith) (omega arith)))
 
 pub decimal-three : (v : ℕ) → 100 ≤ v → v < 1000 → decimal v ≡ digitsOf 1 (v / 10 / 10) ++ (digitsOf 1 (v / 10) ++ digitsOf 1 v)
 unfolding digitsOf
-decimal-three v l h = decimal-digits v ∙ ap (λ (k : ℕ). digitsOf k v) (sym (decimal-width 2 v (omega arith) (omega arith) (omega arith)))
+decimal-three v l h = decimal-digits v ∙ ap (λ (k : ℕ). digitsOf k v) (sym (decimal-width 2 {v = v} (omega arith) (omega arith) (omega arith)))

@@ -1,13 +1,12 @@
 -- A command's reply and the list that it leaves give the line that the trace answers.
 use mathlib.Core.Path.{_≡_, refl}
 use mathlib.Core.List.{List, []}
-use Prim.Native.Nat.{ℕ, _≤_}
-use native.Mathlib.Omega.{arith}
-use lib.ListN.{length, drop, length-append}
+use Prim.Native.Nat.{ℕ}
+use lib.ListN.{length, drop}
 use lib.Seq.{take-append-seam}
 use Rattle.rules.specs.Tables.{Base, Store, isDraft, isFrozen}
 use Rattle.rules.specs.Commands.{Verdict, accepted, refused, verdict, freedBy, valueOf}
-use Rattle.rules.specs.Calls.{Reply, answered, saw, checked, valuesOf, refusedBy, doneBy, acceptedBy, listing, effected, effectOf}
+use Rattle.rules.specs.Calls.{Reply, answered, saw, checked, refusedBy, doneBy, acceptedBy, listing, effected, effectOf}
 use Rattle.rules.specs.Trace.{answerLine, lookLine, acceptedLine, lineBy, answerTo, howMany, leads, endLine}
 use Rattle.rules.specs.declared.Command.{Command}
 use Rattle.rules.specs.declared.Command.the-variants.{New, Set, Freeze, Acquire, Release, Bin, Look}
@@ -64,44 +63,3 @@ pub end-line : (s : Store)
     ≡ closingLine (howMany (isDraft (s .base)) (s .base .n)) (howMany (isFrozen (s .base)) (s .base .n)) (howMany (leads s) (s .base .n))
 unfolding endLine
 end-line s = refl
-
--- ---- the list holds the freed numbers
-
--- how many numbers a reply says are freed
-abbrev pub freedIn : Reply → ℕ
-freedIn (answered a) = valuesOf a .freed
-freedIn (saw s) = 0
-freedIn (checked c) = 0
-
-listed : (b : Base) (c : Command) (l : List ℕ) → freedIn (answered (doneBy b c)) ≤ length (listing (freedBy b c) l)
-unfolding doneBy listing
-listed b c l = rw length-append (omega arith)
-
-accepted-freed : (s : Store) (l : List ℕ) (c : Command) → freedIn (acceptedBy s c) ≤ length (listing (freedBy (s .base) c) l)
-unfolding acceptedBy
-accepted-freed s l New = listed (s .base) New l
-accepted-freed s l (Set p k t) = listed (s .base) (Set p k t) l
-accepted-freed s l (Freeze p) = listed (s .base) (Freeze p) l
-accepted-freed s l (Acquire p) = listed (s .base) (Acquire p) l
-accepted-freed s l (Release p) = listed (s .base) (Release p) l
-accepted-freed s l (Bin p) = listed (s .base) (Bin p) l
-accepted-freed s l (Look p) = omega arith
-
-refused-freed : (r : Refusal) (c : Command) → freedIn (refusedBy r c) ≡ 0
-unfolding refusedBy
-refused-freed r New = refl
-refused-freed r (Set p k t) = refl
-refused-freed r (Freeze p) = refl
-refused-freed r (Acquire p) = refl
-refused-freed r (Release p) = refl
-refused-freed r (Bin p) = refl
-refused-freed r (Look p) = refl
-
-freed-by-verdict : (s : Store) (l : List ℕ) (c : Command) (v : Verdict) → freedIn (effected s l c v .reply) ≤ length (effected s l c v .list)
-unfolding effected
-freed-by-verdict s l c accepted = accepted-freed s l c
-freed-by-verdict s l c (refused r) = omega (arith, refused-freed r c)
-
-pub freed-within : (s : Store) (l : List ℕ) (c : Command) → freedIn (effectOf s l c .reply) ≤ length (effectOf s l c .list)
-unfolding effectOf
-freed-within s l c = freed-by-verdict s l c (verdict (s .base) c)

@@ -1,14 +1,18 @@
 -- Bytes written into a lent room, and the lines that are written there.
 use mathlib.Core.Path.{_≡_}
 use mathlib.Core.List.{List, [], _∷_, _++_}
-use Prim.Native.Nat.{ℕ, zero, suc, _+_, _/_, _%_}
+use Prim.Native.Nat.{ℕ, zero, suc, _+_, _*_, _/_, _%_}
 use lib.ListN.{length, take}
 use lib.Seq.{sets}
-use Rattle.rules.specs.Limits.{none}
+use Rattle.rules.specs.Limits.{most, none}
 use Rattle.rules.specs.Calls.{numberOf}
 use Rattle.rules.specs.Trace.{decimal, valueOr, spaced, answerLine}
 use Rattle.rules.specs.declared.Answer.{Answer}
 use Rattle.rules.specs.declared.Answer.the-variants.{Done, Refused}
+
+-- the most bytes of a line: 64, and 6 for each freed number
+abbrev pub longest : ℕ
+longest = 64 + 6 * most
 
 -- bytes were written at a place, and `next` is the place after them
 pub record Wrote (before : List ℕ) (at : ℕ) (bytes : List ℕ) (after : List ℕ) (next : ℕ) : Type 0 where

@@ -4,7 +4,8 @@ ghost use mathlib.Core.List.{[], _∷_};
 ghost use Prim.Native.Nat.{_+_, _*_, _≤_, _<_};
 ghost use lib.ListN.{length, take};
 ghost use Rattle.rules.specs.Limits.{none};
-ghost use Rattle.rules.specs.Calls.{numberOf, valuesOf};
+ghost use Rattle.rules.specs.Calls.{numberOf, answered};
+ghost use Rattle.rules.specs.History.{freedIn};
 ghost use Rattle.rules.specs.Trace.{decimal, valueOr, spaced, answerLine, lookLine, badLine};
 ghost use Rattle.answers.specs.Wrote.{Wrote, digitsOf, pieceLine, lineOf, closingLine};
 use rules::Answer;
@@ -12,24 +13,8 @@ use rules::Refusal;
 use rules::Seen;
 use rules::Store;
 
-// The number of a refusal.
-pub fn refusal_number(refusal: Refusal) -> u32
-    ensures { λ r. ⌜ r ≡ numberOf refusal ⌝ }
-{
-    match refusal {
-        Refusal::Size => 1,
-        Refusal::Unsound => 2,
-        Refusal::Number => 3,
-        Refusal::Free => 4,
-        Refusal::State => 5,
-        Refusal::Limit => 6,
-        Refusal::NotHeld => 7,
-        Refusal::Linked => 8,
-        Refusal::Full => 9,
-        Refusal::Long => 10,
-        Refusal::Room => 11,
-    }
-}
+// The most bytes of a line: 64, and 6 for each of 1,024 freed numbers.
+pub const LONGEST: usize = 6208;
 
 // One byte.
 fn put_byte(out: &mut [u8], at: usize, b: u8) -> usize
@@ -203,15 +188,15 @@ fn put_refused(out: &mut [u8], at: usize, refusal: Refusal) -> usize
     ensures { λ r. ⌜ Wrote (now (out .entry)) at (answerLine (numberOf refusal) none []) (now (out .exit)) r ⌝ }
     ensures { λ r. ⌜ r ≤ at + 64 ⌝ }
 {
-    let number = refusal_number(refusal);
+    let number = rules::refusal_number(refusal);
     put_none(out, at, number)
 }
 
 // The line of an answer, whose freed numbers are the first of the list.
 pub fn put_answer(out: &mut [u8], at: usize, answer: Answer, list: &[u16]) -> usize
-    requires { ⌜ (valuesOf answer .freed ≤ length (now list)) × (at + 64 + 6 * valuesOf answer .freed ≤ length (now out)) ⌝ }
+    requires { ⌜ (freedIn (answered answer) ≤ length (now list)) × (at + 64 + 6 * freedIn (answered answer) ≤ length (now out)) ⌝ }
     ensures { λ r. ⌜ Wrote (now (out .entry)) at (lineOf answer (now (list .entry))) (now (out .exit)) r ⌝ }
-    ensures { λ r. ⌜ r ≤ at + 64 + 6 * valuesOf answer .freed ⌝ }
+    ensures { λ r. ⌜ r ≤ at + 64 + 6 * freedIn (answered answer) ⌝ }
 {
     match answer {
         Answer::Done { value, freed } => put_done(out, at, value, freed, list),

@@ -1,9 +1,10 @@
 // Leaves over the areas: filling, sizes, the lowest free number, one piece's links.
 ghost use mathlib.Core.Path.{_≡_};
 ghost use mathlib.Core.List.{_++_};
-ghost use Prim.Native.Nat.{ℕ, _+_, _*_, _≤_, _<_};
-ghost use lib.ListN.{length, getD, drop, replicate};
-ghost use Rattle.rules.specs.Calls.{storeOf, isSized};
+ghost use Prim.Native.Nat.{_+_, _*_, _≤_, _<_};
+ghost use lib.ListN.{length, drop, replicate};
+ghost use Rattle.rules.specs.Tables.{storeOf};
+ghost use Rattle.rules.specs.Calls.{isSized};
 ghost use Rattle.areas.specs.Lowest.{NoneFree, LowestFree};
 ghost use Rattle.areas.specs.Blocks.{Shows};
 ghost use Rattle.areas.specs.Four.{Four};
@@ -65,7 +66,7 @@ pub fn sized(
     if states.len() != n {
         return false;
     }
-    if links.len() != 4 * n {
+    if links.len() != Store::LINKS * n {
         return false;
     }
     if leaders.len() != n {
@@ -87,7 +88,7 @@ pub fn lowest_free(n: usize, states: &[u8], from: usize) -> usize
 {
     let mut p = from;
     while p < n {
-        if states[p] == 0 {
+        if states[p] == Store::FREE {
             return p;
         }
         p += 1;
@@ -136,9 +137,9 @@ pub fn four(links: &[u16], p: usize) -> u64
     requires { ⌜ 4 * p + 3 < length (now links) ⌝ }
     ensures { λ r. ⌜ Four (now (links .entry)) p r ⌝ }
 {
-    let a = links[4 * p] as u64;
-    let b = links[4 * p + 1] as u64;
-    let c = links[4 * p + 2] as u64;
-    let d = links[4 * p + 3] as u64;
+    let a = links[Store::LINKS * p] as u64;
+    let b = links[Store::LINKS * p + 1] as u64;
+    let c = links[Store::LINKS * p + 2] as u64;
+    let d = links[Store::LINKS * p + 3] as u64;
     a + 65536 * b + 4294967296 * c + 281474976710656 * d
 }

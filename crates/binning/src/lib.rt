@@ -1,16 +1,16 @@
 // Bin on sound tables: draft P becomes free.
 ghost use mathlib.Core.Path.{_≡_};
-ghost use mathlib.Core.Bool.{false};
 ghost use mathlib.Core.List.{[], _∷_};
 ghost use Prim.Native.Nat.{_*_, _≤_, _<_};
 ghost use lib.ListN.{length};
-ghost use Rattle.rules.specs.Calls.{answered, effect, storeOf, Ready, Did};
+ghost use Rattle.rules.specs.Tables.{storeOf};
+ghost use Rattle.rules.specs.Calls.{answered, effect, Ready, Did};
 ghost use Rattle.rules.specs.declared.Command.the-variants.{Bin};
-ghost use Rattle.tallies.specs.Tally.{_!_};
-ghost use Rattle.editing.specs.Verdicts.{Accepted};
+ghost use Rattle.editing.specs.Verdicts.{Worked};
 ghost use Rattle.editing.specs.Started.{Tippings, Tumbled};
 ghost use Rattle.editing.specs.Linked.{namings, linkedTo};
 ghost use Rattle.editing.specs.Emptied.{Emptying, Emptied};
+ghost use Rattle.editing.specs.Bin.{Binning};
 use rules::Answer;
 use rules::Refusal;
 use rules::Store;
@@ -38,7 +38,7 @@ fn is_linked(n: usize, links: &[u16], p: u16) -> bool
 {
     let all = naming(links, p);
     let at = p as usize;
-    let start = 4 * at;
+    let start = Store::LINKS * at;
     let end = start + 4;
     let own = naming(&links[start..end], p);
     if all != own {
@@ -91,19 +91,18 @@ fn bin_draft(
     list: &mut [u16],
     p: usize,
 ) -> usize
-    requires { ⌜ Ready (storeOf n (now states) (now links) (now leaders) (now holds) (now counts)) × (n ≤ length (now list)) × (p < n)
-        × (now states ! p ≡ 0 → ⊥) × (now states ! p ≡ 2 → ⊥) × (false ≡ linkedTo n (now links) p) ⌝ }
-    ensures { λ r. ⌜ Accepted (Bin p)
+    requires { ⌜ Binning (storeOf n (now states) (now links) (now leaders) (now holds) (now counts)) (now list) p ⌝ }
+    ensures { λ r. ⌜ Worked (Bin p)
         (storeOf n (now (states .entry)) (now (links .entry)) (now (leaders .entry)) (now (holds .entry)) (now (counts .entry))) (now (list .entry))
         (storeOf n (now (states .exit)) (now (links .exit)) (now (leaders .exit)) (now (holds .entry)) (now (counts .exit))) (now (list .exit)) r ⌝ }
 {
-    let at = 4 * p;
+    let at = Store::LINKS * p;
     let a = links[at] as usize;
     let b = links[at + 1] as usize;
     let c = links[at + 2] as usize;
     let d = links[at + 3] as usize;
     empty_places(n, links, leaders, counts, p);
-    states[p] = 0;
+    states[p] = Store::FREE;
     let first = fall_four(n, states, leaders, counts, list, a, b, c, d);
     letting_go::let_go(n, states, links, leaders, counts, list, first)
 }
@@ -128,10 +127,10 @@ pub fn bin(
     if n <= at {
         return Answer::Refused(Refusal::Number);
     }
-    if states[at] == 0 {
+    if states[at] == Store::FREE {
         return Answer::Refused(Refusal::Free);
     }
-    if states[at] == 2 {
+    if states[at] == Store::FROZEN {
         return Answer::Refused(Refusal::State);
     }
     if is_linked(n, links, p) {

@@ -2,11 +2,9 @@
 ghost use Prim.Native.Nat.{_≤_};
 ghost use lib.ListN.{length};
 ghost use Rattle.carrying.specs.Carried.{Carried};
+use chunks::ENOUGH;
 
-// A line of more bytes is bad whatever its bytes.
-const ENOUGH: usize = 65;
-
-// Moves the bytes from `from` up to `to`, at most 65 of them, to the front, and answers how many.
+// Moves the bytes from `from` up to `to`, as many as are enough of a line, to the front, and answers how many.
 pub fn carry(buf: &mut [u8], from: usize, to: usize) -> usize
     requires { ⌜ (from ≤ to) × (to ≤ length (now buf)) ⌝ }
     ensures { λ r. ⌜ Carried (now (buf .entry)) from to (now (buf .exit)) r ⌝ }

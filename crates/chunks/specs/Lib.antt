@@ -1,4 +1,3 @@
 pub mod Chunks
 pub mod Short
-pub mod Reading
-pub mod Places
+pub mod Says

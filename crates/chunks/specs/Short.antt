@@ -1,4 +1,4 @@
--- A line longer than 64 bytes is bad whatever its bytes, so the first 65 bytes of an unfinished line are enough to carry.
+-- A line longer than 64 bytes is bad whatever its bytes, so the first 65 bytes of an unfinished line are enough to keep.
 use mathlib.Core.Logic.{_⊎_, inl, inr, ⊎-elim}
 use mathlib.Core.Path.{_≡_, refl, sym, _∙_}
 use mathlib.Core.Bool.{Bool, true, false}
@@ -14,53 +14,54 @@ use Rattle.rules.specs.Tables.{Store}
 use Rattle.rules.specs.Trace.{lastLine, linesFrom, says, outputOf}
 use Rattle.lines.specs.Says.{says-long}
 
--- at most 65 bytes, or more
-short-or-long : (l : List ℕ) → (length l ≤ 65) ⊎ (65 < length l)
-short-or-long l = by-test (leb (length l) 65) refl
+-- so many bytes of an unfinished line: the number of the constant ENOUGH
+abbrev pub enough : ℕ
+enough = 65
+
+-- at most so many bytes, or more
+short-or-long : (l : List ℕ) → (length l ≤ enough) ⊎ (enough < length l)
+short-or-long l = by-test (leb (length l) enough) refl
   where
-    by-test : (t : Bool) → leb (length l) 65 ≡ t → (length l ≤ 65) ⊎ (65 < length l)
-    by-test true e = inl (leb-true (length l) 65 e)
-    by-test false e = inr (leb-false (length l) 65 e)
+    by-test : (t : Bool) → leb (length l) enough ≡ t → (length l ≤ enough) ⊎ (enough < length l)
+    by-test true e = inl (leb-true (length l) enough e)
+    by-test false e = inr (leb-false (length l) enough e)
 
 -- a line says what its first 65 bytes say
-pub says-short : (l : List ℕ) → says l ≡ says (take 65 l)
+says-short : (l : List ℕ) → says l ≡ says (take enough l)
 says-short l =
     ⊎-elim
-    (λ s. rw (take-all 65 l s))
-    (λ s. let n : length (take 65 l) ≡ 65 = length-take-le 65 l (omega arith) in
-    says-long l (omega arith) ∙ sym (says-long (take 65 l) (omega arith)))
+    (λ s. rw (take-all enough l s))
+    (λ s. let n : length (take enough l) ≡ enough = length-take-le enough l (omega arith) in
+    says-long l (omega arith) ∙ sym (says-long (take enough l) (omega arith)))
     (short-or-long l)
 
-pub short-append : (begun part : List ℕ) → take 65 (take 65 begun ++ part) ≡ take 65 (begun ++ part)
+short-append : (begun part : List ℕ) → take enough (take enough begun ++ part) ≡ take enough (begun ++ part)
 short-append begun part =
     ⊎-elim
-    (λ s. rw (take-all 65 begun s))
-    (λ s. let n : length (take 65 begun) ≡ 65 = length-take-le 65 begun (omega arith) in
-    take-append-le 65 (take 65 begun) part (omega arith) ∙ take-take 65 65 begun (omega arith) ∙ sym (take-append-le 65 begun part (omega arith)))
+    (λ s. rw (take-all enough begun s))
+    (λ s. let n : length (take enough begun) ≡ enough = length-take-le enough begun (omega arith) in
+    take-append-le enough (take enough begun) part (omega arith) ∙ take-take enough enough begun (omega arith) ∙ sym (take-append-le enough begun part (omega arith)))
     (short-or-long begun)
-
-says-begun : (begun part : List ℕ) → says (take 65 begun ++ part) ≡ says (begun ++ part)
-says-begun begun part = says-short (take 65 begun ++ part) ∙ rw (short-append begun part) (sym (says-short (begun ++ part)))
 
 -- ---- two unfinished lines with the same first 65 bytes give the same output, whatever follows
 
-alike-says : (x y : List ℕ) → take 65 x ≡ take 65 y → says x ≡ says y
+alike-says : (x y : List ℕ) → take enough x ≡ take enough y → says x ≡ says y
 alike-says x y e = says-short x ∙ rw e (sym (says-short y))
 
-alike-more : (x y part : List ℕ) → take 65 x ≡ take 65 y → take 65 (x ++ part) ≡ take 65 (y ++ part)
+alike-more : (x y part : List ℕ) → take enough x ≡ take enough y → take enough (x ++ part) ≡ take enough (y ++ part)
 alike-more x y part e = sym (short-append x part) ∙ rw e (short-append y part)
 
-alike-line : (s : Store) (x y : List ℕ) (ls : List (List ℕ)) → take 65 x ≡ take 65 y → outputOf s (x ∷ ls) ≡ outputOf s (y ∷ ls)
+alike-line : (s : Store) (x y : List ℕ) (ls : List (List ℕ)) → take enough x ≡ take enough y → outputOf s (x ∷ ls) ≡ outputOf s (y ∷ ls)
 unfolding outputOf
 alike-line s x y ls e = rw (alike-says x y e)
 
-alike-last : (s : Store) (x y : List ℕ) → take 65 x ≡ take 65 y → outputOf s (lastLine x) ≡ outputOf s (lastLine y)
+alike-last : (s : Store) (x y : List ℕ) → take enough x ≡ take enough y → outputOf s (lastLine x) ≡ outputOf s (lastLine y)
 alike-last s [] [] e = refl
 alike-last s [] (b ∷ bs) e = let z : _≡_ {A = ℕ} 0 1 = cc in absurd (omega arith)
 alike-last s (a ∷ l) [] e = let z : _≡_ {A = ℕ} 0 1 = cc in absurd (omega arith)
 alike-last s (a ∷ l) (b ∷ bs) e = alike-line s (a ∷ l) (b ∷ bs) [] e
 
-alike-output : (s : Store) (x y text : List ℕ) → take 65 x ≡ take 65 y → outputOf s (linesFrom x text) ≡ outputOf s (linesFrom y text)
+alike-output : (s : Store) (x y text : List ℕ) → take enough x ≡ take enough y → outputOf s (linesFrom x text) ≡ outputOf s (linesFrom y text)
 unfolding linesFrom
 alike-output s x y [] e = alike-last s x y e
 alike-output s x y (b ∷ bs) e =
@@ -73,6 +74,6 @@ alike-output s x y (b ∷ bs) e =
     by-test f true = alike-line s x y (linesFrom [] bs) e
     by-test f false = f
 
--- so carrying the first 65 bytes of an unfinished line gives the same output
-pub output-short : (s : Store) (begun text : List ℕ) → outputOf s (linesFrom (take 65 begun) text) ≡ outputOf s (linesFrom begun text)
-output-short s begun text = alike-output s (take 65 begun) begun text (take-take 65 65 begun (omega arith))
+-- so keeping the first 65 bytes of an unfinished line gives the same output
+pub output-short : (s : Store) (begun text : List ℕ) → outputOf s (linesFrom (take enough begun) text) ≡ outputOf s (linesFrom begun text)
+output-short s begun text = alike-output s (take enough begun) begun text (take-take enough enough begun (omega arith))

@@ -1,151 +1,138 @@
--- Counting up: what a piece's holds and each of its places add to the counts of the labels.
-use mathlib.Core.Path.{_≡_, refl, sym, ap, _∙_}
+-- Counting up: what a piece's holds and its places add to the counts of the labels.
+use mathlib.Core.Path.{_≡_, sym, ap, _∙_, subst}
 use mathlib.Core.List.{List}
-use Prim.Native.Nat.{ℕ, _+_, _*_, _/_, _≤_, _<_}
+use Prim.Native.Nat.{ℕ, zero, suc, _+_, _*_, _/_, _≤_, _<_}
 use native.Mathlib.Omega.{arith}
 use lib.Dec.{eqb}
-use lib.ListN.{length, set, length-set, drop}
-use lib.Seq.{drop-set-lt}
+use lib.ListN.{set}
 use borrow.Author.Tests.{eq-eqb, ne-eqb}
+use Rattle.rules.specs.Lists.{_!_}
 use Rattle.rules.specs.Limits.{none}
 use Rattle.rules.specs.Below.{sum}
 use Rattle.laws.specs.Below.{sum-next}
 use Rattle.laws.specs.Counts.{sum-most}
-use Rattle.areas.specs.Four.{Four, fourNone, oneAtMost}
-use Rattle.tallies.specs.Sums.{getD-any, onlyIf-true, onlyIf-false, onlyIf-most}
-use Rattle.tallies.specs.Tally.{_!_, label, cross, held, placed, tally}
-use Rattle.tallies.specs.Moves.{cross-off, cross-most}
-use Rattle.tallies.specs.Exact.{label-past}
-use Rattle.tallies.specs.Adding.{Labelled, Tallied, Added, added-none, added-one, added-then, added-same}
+use Rattle.tallies.specs.Sums.{onlyIf-true, onlyIf-false, onlyIf-most}
+use Rattle.tallies.specs.Tally.{label, held, placed, tally}
+use Rattle.tallies.specs.Moves.{cross-most}
+use Rattle.tallies.specs.Exact.{sum-flat}
+use Rattle.tallies.specs.Adding.{Labelled, label-at, Tallied, Added, added-none, added-one, added-then, added-same, still}
+use Rattle.tallies.specs.Places.{LinkAdded, link-past}
 
--- the entries from n on are as they were
-pub record LaterSame (n : ℕ) (c c′ : List ℕ) : Type 0 where
-  pub size : length c′ ≡ length c
-  pub later : drop n c′ ≡ drop n c
-
--- there is room for one more of 16 bits in every count
-abbrev pub Room : ℕ → List ℕ → Type 0
-Room n counts = (l : ℕ) → l < n → counts ! l ≤ 4294901759
-
-pub added-later : {n : ℕ} {f : ℕ → ℕ} {a b : List ℕ} → Added n f a b → LaterSame n a b
-added-later x = record { size = x .size; later = x .later }
-
-pub same-none : {n : ℕ} {a : List ℕ} → LaterSame n a a
-same-none = record { size = refl; later = refl }
-
-pub same-set : (n : ℕ) (c : List ℕ) (l v : ℕ) → l < n → LaterSame n c (set c l v)
-same-set n c l v h = record { size = length-set c l v; later = drop-set-lt n c l v h }
-
-pub same-then : {n : ℕ} {a b c : List ℕ} → LaterSame n a b → LaterSame n b c → LaterSame n a c
-same-then x y = record { size = y .size ∙ x .size; later = y .later ∙ x .later }
+-- each label has a count, with room for one more of 16 bits
+pub record Countable (n : ℕ) (leaders counts : List ℕ) : Type 0 where
+  pub labelled : Labelled n leaders counts
+  pub room : (l : ℕ) → l < n → counts ! l ≤ 4294901759
 
 -- ---- the holds of a piece
 
-module _ (n : ℕ) (holds leaders counts : List ℕ) (z : Labelled n leaders counts) (q : ℕ) (k : q < n) where
-  label-q : label leaders q ≡ leaders ! q
-  label-q = getD-any leaders q none 0 (omega (arith, z .leaders-n))
+-- the holds of q are counted
+pub record HoldAdded (n : ℕ) (holds leaders : List ℕ) (q : ℕ) (c c′ : List ℕ) : Type 0 where
+  pub added : Added n (λ l. held holds leaders l q) c c′
 
-  pub hold-miss : n ≤ leaders ! q → Added n (λ l. held holds leaders l q) counts counts
+module _ {n : ℕ} {holds leaders counts : List ℕ} {q : ℕ} (z : Labelled n leaders counts) (k : q < n) where
+  -- q has no label
+  pub hold-miss : n ≤ leaders ! q → HoldAdded n holds leaders q counts counts
   unfolding held
-  hold-miss h = added-none n (λ l. held holds leaders l q) counts (λ l u. onlyIf-false _ (holds ! q) (ne-eqb (label leaders q) l (λ e. omega (arith, label-q))))
+  hold-miss h = record { added = added-none (λ l u. onlyIf-false _ (holds ! q) (ne-eqb (label leaders q) l (λ e. omega (arith, label-at z q k)))) }
 
-  pub hold-hit : leaders ! q < n → Added n (λ l. held holds leaders l q) counts (set counts (leaders ! q) (counts ! (leaders ! q) + holds ! q))
+  -- it has one
+  pub hold-hit : leaders ! q < n → HoldAdded n holds leaders q counts (set counts (leaders ! q) (counts ! (leaders ! q) + holds ! q))
   unfolding held
-  hold-hit h =
-      added-one n (λ l. held holds leaders l q) counts (leaders ! q) (holds ! q) h (z .counts-n)
-      (onlyIf-true _ (holds ! q) (eq-eqb (label leaders q) (leaders ! q) label-q))
-      (λ j u d. onlyIf-false _ (holds ! q) (ne-eqb (label leaders q) j (λ y. d (sym y ∙ label-q))))
+  hold-hit h = record {
+    added =
+        added-one (leaders ! q) (holds ! q) h (z .counts-n) (onlyIf-true _ (holds ! q) (eq-eqb (label leaders q) (leaders ! q) (label-at z q k)))
+        (λ j u d. onlyIf-false _ (holds ! q) (ne-eqb (label leaders q) j (λ y. d (sym y ∙ label-at z q k))));
+  }
 
 -- the holds of one piece more fit
-pub hold-fits : (holds leaders : List ℕ) (q : ℕ) {n : ℕ} {c c′ : List ℕ} → ((p : ℕ) → holds ! p < 65536) → Added n (λ l. held holds leaders l q) c c′ → (l : ℕ) → l < n → c′ ! l ≤ c ! l + 65535
+pub hold-fits : {n : ℕ} {holds leaders : List ℕ} {q : ℕ} {c c′ : List ℕ} → HoldAdded n holds leaders q c c′ → holds ! q < 65536 → (l : ℕ) → l < n → c′ ! l ≤ c ! l + 65535
 unfolding held
-hold-fits holds leaders q b a l h = omega (arith, a .sums l h, onlyIf-most (eqb (label leaders q) l) (holds ! q) 65535 (omega (arith, b q)))
+hold-fits {holds = holds} {leaders} {q} a b l h = omega (arith, a .added .sums l h, onlyIf-most (eqb (label leaders q) l) (holds ! q) 65535 (omega arith))
 
--- ---- one place
+-- ---- the places of a piece
 
--- a place of a piece with label own that names t is counted
-abbrev pub LinkAdded : ℕ → List ℕ → ℕ → ℕ → List ℕ → List ℕ → Type 0
-LinkAdded n leaders own t c c′ = (i : ℕ) → label leaders (i / 4) ≡ own → Added n (λ l. cross leaders l i t) c c′
+-- the first j places of q are counted
+pub record PlacesCounted (n : ℕ) (links leaders : List ℕ) (q j : ℕ) (c c′ : List ℕ) : Type 0 where
+  pub added : Added n (λ l. sum (λ k. placed links leaders l (4 * q + k)) j) c c′
 
--- the piece of a place
-pub owner : (n : ℕ) (leaders : List ℕ) (q i : ℕ) → length leaders ≡ n → q < n → 4 * q ≤ i → i ≤ 4 * q + 3 → label leaders (i / 4) ≡ leaders ! q
-owner n leaders q i size h a b =
-    let e : i / 4 ≡ q = omega arith in
-    ap (λ (p : ℕ). label leaders p) e ∙ getD-any leaders q none 0 (omega arith)
+pub places-none : {n : ℕ} {links leaders : List ℕ} {q : ℕ} {c : List ℕ} → PlacesCounted n links leaders q 0 c c
+unfolding sum
+places-none = record { added = added-none (λ l u. omega arith) }
 
--- ---- the four places of a piece
+-- each adds at most 1
+pub places-fit : {n : ℕ} {links leaders : List ℕ} {q j : ℕ} {c c′ : List ℕ} → PlacesCounted n links leaders q j c c′ → (l : ℕ) → l < n → c′ ! l ≤ c ! l + j
+unfolding placed
+places-fit {links = links} {leaders} {q} {j} a l h =
+    omega (arith, a .added .sums l h, sum-most (λ k. placed links leaders l (4 * q + k)) 1 j (λ k _. cross-most leaders l (4 * q + k) (links ! (4 * q + k))))
 
--- what the four places of q add
-abbrev pub fourPlaces : List ℕ → List ℕ → ℕ → ℕ → ℕ
-fourPlaces links leaders q l = placed links leaders l (4 * q) + placed links leaders l (4 * q + 1) + placed links leaders l (4 * q + 2) + placed links leaders l (4 * q + 3)
+-- one place more
+pub places-more : {n : ℕ} {links leaders : List ℕ} {q j : ℕ} {c c₁ c₂ : List ℕ} → Labelled n leaders c → q < n → j < 4 → PlacesCounted n links leaders q j c c₁
+    → LinkAdded n leaders (leaders ! q) (links ! (4 * q + j)) c₁ c₂ → PlacesCounted n links leaders q (j + 1) c c₂
+unfolding placed
+places-more {links = links} {leaders} {q} {j} z h k a b =
+    let e : (4 * q + j) / 4 ≡ q = omega arith in
+    record {
+      added =
+          added-same (λ l u. omega (arith, sum-next (λ k. placed links leaders l (4 * q + k)) j))
+          (added-then (a .added) (b .at (4 * q + j) (ap (λ (p : ℕ). label leaders p) e ∙ label-at z q h)));
+    }
 
-module _ (n : ℕ) (links leaders : List ℕ) (size : length leaders ≡ n) (small : n ≤ 1024) (q : ℕ) where
-  -- an empty place adds nothing
-  empty : (i l : ℕ) → l < n → links ! i ≡ none → placed links leaders l i ≡ 0
-  unfolding placed
-  empty i l u e =
-      ap (λ (t : ℕ). cross leaders l i t) e ∙ cross-off leaders l i none (λ x. omega (arith, label-past n leaders none size (omega arith)))
-
-  pub four-none : (w : ℕ) → Four links q w → w ≡ fourNone → (counts : List ℕ) → Added n (fourPlaces links leaders q) counts counts
-  four-none w f e counts =
-      let first : links ! (4 * q) ≡ none = ap (λ (i : ℕ). links ! i) (omega arith) ∙ f .empty e 0 (omega arith) in
-      added-none n (fourPlaces links leaders q) counts (λ l u.
-      omega (arith, empty (4 * q) l u first, empty (4 * q + 1) l u (f .empty e 1 (omega arith)), empty (4 * q + 2) l u (f .empty e 2 (omega arith)), empty (4 * q + 3) l u (f .empty e 3 (omega arith))))
-
-  pub four-one : (w : ℕ) → Four links q w → oneAtMost ≤ w → (c c′ : List ℕ) → Added n (λ l. cross leaders l (4 * q) (links ! (4 * q))) c c′ → Added n (fourPlaces links leaders q) c c′
-  unfolding placed
-  four-one w f e c c′ a =
-      added-same
-      (λ l u. omega (arith, empty (4 * q + 1) l u (f .rest e 1 (omega arith) (omega arith)), empty (4 * q + 2) l u (f .rest e 2 (omega arith) (omega arith)), empty (4 * q + 3) l u (f .rest e 3 (omega arith) (omega arith))))
-      a
-
-  pub four-all : (c₀ c₁ c₂ c₃ c₄ : List ℕ) → Added n (λ l. cross leaders l (4 * q) (links ! (4 * q))) c₀ c₁ → Added n (λ l. cross leaders l (4 * q + 1) (links ! (4 * q + 1))) c₁ c₂
-      → Added n (λ l. cross leaders l (4 * q + 2) (links ! (4 * q + 2))) c₂ c₃ → Added n (λ l. cross leaders l (4 * q + 3) (links ! (4 * q + 3))) c₃ c₄ → Added n (fourPlaces links leaders q) c₀ c₄
-  unfolding placed
-  four-all c₀ c₁ c₂ c₃ c₄ a b c d = added-then (added-then (added-then a b) c) d
+-- the places left are empty
+pub places-rest : {n : ℕ} {links leaders : List ℕ} {q j : ℕ} {c c₁ : List ℕ} → Labelled n leaders c → q < n → (m : ℕ) → j + m ≡ 4
+    → PlacesCounted n links leaders q j c c₁ → ((k : ℕ) → j ≤ k → k < 4 → links ! (4 * q + k) ≡ none) → PlacesCounted n links leaders q 4 c c₁
+places-rest {n} {links} {leaders} {q} {j} {c} {c₁} z h zero e a f =
+    let all : j ≡ 4 = omega arith in
+    subst (λ (k : ℕ). PlacesCounted n links leaders q k c c₁) all a
+places-rest {j = j} z h (suc m) e a f =
+    let empty = f j (omega arith) (omega arith) in
+    places-rest z h m (omega arith) (places-more z h (omega arith) a (link-past (still z (a .added)) (omega (arith, z .small)))) (λ k l u. f k (omega arith) u)
 
 -- ---- all pieces
 
-module _ (n : ℕ) (links holds leaders : List ℕ) where
-  -- what the pieces below q add
-  abbrev pub passed : ℕ → ℕ → ℕ
-  passed q l = sum (held holds leaders l) q + sum (placed links leaders l) (4 * q)
+-- the holds and the places of the pieces below q are counted
+pub record PiecesCounted (n : ℕ) (links holds leaders : List ℕ) (q : ℕ) (c c′ : List ℕ) : Type 0 where
+  pub added : Added n (λ l. sum (held holds leaders l) q + sum (placed links leaders l) (4 * q)) c c′
 
-  pub passed-none : (counts : List ℕ) → Added n (passed 0) counts counts
-  unfolding sum
-  passed-none counts = added-none n (passed 0) counts (λ l u. omega arith)
+pub pieces-none : {n : ℕ} {links holds leaders c : List ℕ} → PiecesCounted n links holds leaders 0 c c
+unfolding sum
+pieces-none = record { added = added-none (λ l u. omega arith) }
 
-  pub passed-more : (q : ℕ) (c₀ c₁ c₂ c₃ : List ℕ) → Added n (passed q) c₀ c₁ → Added n (λ l. held holds leaders l q) c₁ c₂ → Added n (fourPlaces links leaders q) c₂ c₃
-      → Added n (passed (q + 1)) c₀ c₃
-  passed-more q c₀ c₁ c₂ c₃ a b d =
-      added-same (λ l u. omega (arith, sum-next (held holds leaders l) q, five l)) (added-then (added-then a b) d)
-    where
-      five : (l : ℕ) → sum (placed links leaders l) (4 * (q + 1)) ≡ sum (placed links leaders l) (4 * q) + fourPlaces links leaders q l
-      five l =
-          let f : ℕ → ℕ = placed links leaders l in
-          let e : 4 * (q + 1) ≡ 4 * q + 3 + 1 = omega arith in
-          let e₂ : 4 * q + 3 ≡ 4 * q + 2 + 1 = omega arith in
-          let e₁ : 4 * q + 2 ≡ 4 * q + 1 + 1 = omega arith in
-          omega (
-            arith,
-            ap (sum f) e,
-            sum-next f (4 * q + 3),
-            ap (sum f) e₂,
-            sum-next f (4 * q + 2),
-            ap (sum f) e₁,
-            sum-next f (4 * q + 1),
-            sum-next f (4 * q),
-          )
+-- one piece more
+pub pieces-more : {n : ℕ} {links holds leaders : List ℕ} {q : ℕ} {c c₁ c₂ c₃ : List ℕ} → PiecesCounted n links holds leaders q c c₁ → HoldAdded n holds leaders q c₁ c₂
+    → PlacesCounted n links leaders q 4 c₂ c₃ → PiecesCounted n links holds leaders (q + 1) c c₃
+pieces-more {links = links} {holds} {leaders} {q} a b d = record {
+  added =
+      added-same
+      (λ l u.
+      omega (
+        arith,
+        sum-next (held holds leaders l) q,
+        sum-flat (placed links leaders l) (q + 1),
+        sum-flat (placed links leaders l) q,
+        sum-next (λ r. sum (λ k. placed links leaders l (4 * r + k)) 4) q,
+      ))
+      (added-then (added-then (a .added) (b .added)) (d .added));
+}
 
-  -- the sums fit, where holds are 16 bits wide
-  pub passed-fit : n ≤ 1024 → ((p : ℕ) → holds ! p < 65536) → (q : ℕ) → q ≤ n → (l : ℕ) → passed q l ≤ 67111936
+module _ {n : ℕ} {links holds leaders : List ℕ} {q : ℕ} {c c′ : List ℕ} (a : PiecesCounted n links holds leaders q c c′) (z : (l : ℕ) → l < n → c ! l ≡ 0) where
+  -- counted from 0, the sums fit where holds are 16 bits wide
+  pub pieces-fit : n ≤ 1024 → ((p : ℕ) → holds ! p < 65536) → q ≤ n → (l : ℕ) → l < n → c′ ! l ≤ 67111936
   unfolding held placed
-  passed-fit small b q h l = omega (
+  pieces-fit small b h l u = omega (
     arith,
+    a .added .sums l u,
+    z l u,
     sum-most (held holds leaders l) 65535 q (λ p _. onlyIf-most (eqb (label leaders p) l) (holds ! p) 65535 (omega (arith, b p))),
     sum-most (placed links leaders l) 1 (4 * q) (λ i _. cross-most leaders l i (links ! i)),
   )
 
-  pub tallied : (c₀ c : List ℕ) → ((l : ℕ) → l < n → c₀ ! l ≡ 0) → Added n (passed n) c₀ c → Tallied n links holds leaders c₀ c
+  -- all pieces: the counts of all labels
+  pub pieces-tallied : q ≡ n → Tallied n links holds leaders c c′
   unfolding tally
-  tallied c₀ c z a = record { size = a .size; matches = λ l h. omega (arith, a .sums l h, z l h); later = a .later }
+  pieces-tallied e = record {
+    size = a .added .size;
+    matches = λ l h.
+        a .added .sums l h ∙
+        omega (arith, z l h, ap (λ (k : ℕ). sum (held holds leaders l) k + sum (placed links leaders l) (4 * k)) e);
+    later = a .added .later;
+  }

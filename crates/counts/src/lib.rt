@@ -1,15 +1,14 @@
 // What a piece's holds and each of its links add to the counts of the groups.
 ghost use mathlib.Core.Path.{_≡_};
-ghost use Prim.Native.Nat.{ℕ, _*_, _≤_, _<_};
+ghost use Prim.Native.Nat.{_<_};
 ghost use lib.ListN.{length};
-ghost use Rattle.tallies.specs.Tally.{_!_, held};
-ghost use Rattle.tallies.specs.Adding.{Labelled, Added};
-ghost use Rattle.counts.specs.Added.{LinkAdded, LaterSame, Room};
+ghost use Rattle.tallies.specs.Places.{LinkAdded};
+ghost use Rattle.counts.specs.Added.{Countable, HoldAdded};
 
 // Adds the holds of a piece to the count of its label.
 pub fn add_hold(n: usize, holds: &[u16], leaders: &[u16], counts: &mut [u32], q: usize)
-    requires { ⌜ Labelled n (now leaders) (now counts) × (length (now holds) ≡ n) × Room n (now counts) × (q < n) ⌝ }
-    ensures { λ _. ⌜ Added n (λ l. held (now (holds .entry)) (now (leaders .entry)) l q) (now (counts .entry)) (now (counts .exit)) ⌝ }
+    requires { ⌜ Countable n (now leaders) (now counts) × (length (now holds) ≡ n) × (q < n) ⌝ }
+    ensures { λ _. ⌜ HoldAdded n (now (holds .entry)) (now (leaders .entry)) q (now (counts .entry)) (now (counts .exit)) ⌝ }
 {
     let l = leaders[q] as usize;
     if n <= l {
@@ -20,8 +19,8 @@ pub fn add_hold(n: usize, holds: &[u16], leaders: &[u16], counts: &mut [u32], q:
 
 // Adds one to the count of the target's label, unless it is the label of the piece that names it.
 pub fn add_link(n: usize, leaders: &[u16], counts: &mut [u32], own: usize, target: u16)
-    requires { ⌜ Labelled n (now leaders) (now counts) × Room n (now counts) ⌝ }
-    ensures { λ _. ⌜ LinkAdded n (now (leaders .entry)) own target (now (counts .entry)) (now (counts .exit)) × LaterSame n (now (counts .entry)) (now (counts .exit)) ⌝ }
+    requires { ⌜ Countable n (now leaders) (now counts) ⌝ }
+    ensures { λ _. ⌜ LinkAdded n (now (leaders .entry)) own target (now (counts .entry)) (now (counts .exit)) ⌝ }
 {
     let t = target as usize;
     if n <= t {

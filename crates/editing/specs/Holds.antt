@@ -1,5 +1,5 @@
--- One hold more or less on p: acquire and release, over plain tables.
-use mathlib.Core.Path.{_≡_, refl, sym, ap, _∙_, subst}
+-- One hold more or less on p: acquire and release, on sound tables.
+use mathlib.Core.Path.{_≡_, refl, sym, _∙_, subst}
 use mathlib.Core.List.{List, [], _∷_}
 use Prim.Native.Nat.{ℕ, _+_, _-_, _≤_, _<_}
 use native.Mathlib.Omega.{arith}
@@ -8,204 +8,198 @@ use lib.ListN.{length, set, length-set}
 use lib.Seq.{getD-set-other}
 use Rattle.rules.specs.Tests.{_&_}
 use Rattle.rules.specs.Limits.{none}
-use Rattle.rules.specs.Tables.{Base, Store, state, isFrozen, linkAt, holdsOf, finish}
+use Rattle.rules.specs.Tables.{Base, Store, state, isFree, isDraft, isFrozen, linkAt, holdsOf}
 use Rattle.rules.specs.Words.{Frozen, Well}
-use Rattle.rules.specs.Lists.{first}
-use Rattle.rules.specs.Commands.{accepted, namesFree, wrongState, atLimit, notHeld, linked, full, edit, withHolds, oneMore, oneLess, after, settles, freedBy, valueOf, nextStore}
-use Rattle.rules.specs.Calls.{answered, effect, effected, effectOf, acceptedBy, doneBy, listing, storeOf, Ready, Did}
+use Rattle.rules.specs.Lists.{first, _!_}
+use Rattle.rules.specs.Commands.{atLimit, notHeld, edit, withHolds, oneMore, oneLess, after, settles, freedBy, valueOf, nextStore}
+use Rattle.rules.specs.Calls.{answered, effect, acceptedBy, doneBy, listing, fresh, Ready, Did}
 use Rattle.rules.specs.declared.Refusal.the-variants.{Limit, NotHeld}
 use Rattle.rules.specs.declared.Command.the-variants.{Acquire, Release}
-use Rattle.rules.specs.declared.Answer.the-variants.{Done, Refused}
+use Rattle.rules.specs.declared.Answer.{Answer}
+use Rattle.rules.specs.declared.Answer.the-variants.{Refused}
 use Rattle.laws.specs.Tests.{and-both, and-right}
 use Rattle.laws.specs.Words.{eqb-of, neqb-of, →isFrozen}
 use Rattle.laws.specs.Passes.{Passes, live-frozen}
 use Rattle.laws.specs.Commands.{edit-well}
+use Rattle.laws.specs.Verdicts.{accepts, did-accepted}
 use Rattle.tallies.specs.Sums.{getD-any}
-use Rattle.tallies.specs.Tally.{_!_, label, CountsMatch}
+use Rattle.tallies.specs.Tally.{label, CountsMatch}
 use Rattle.tallies.specs.Moves.{match-hold, hold-counts}
 use Rattle.tallies.specs.Exact.{Exact, label-below}
 use Rattle.tallies.specs.Finished.{finished}
-use Rattle.tallies.specs.Stores.{exact-moves, good-of, wells-of, exact-of, match-of, counted-of}
-use Rattle.falling.specs.Steps.{base, Going}
-use Rattle.falling.specs.Fall.{Begin, OverBut, Falling, Tipping, Tipped}
-use Rattle.falling.specs.Freed.{Freed}
-use Rattle.laws.specs.Verdicts.{accepts}
-use Rattle.editing.specs.Verdicts.{Accepted, settled-did}
-use Rattle.editing.specs.Started.{one-tipping, one-fallen, started, started-settled}
-use Rattle.editing.specs.Names.{acquire-names, release-names, number-right, free-right, state-right, limit-refused, held-refused}
+use Rattle.tallies.specs.Stores.{good-of, wells-of, exact-of, match-of, counted-of, counts-most}
+use Rattle.falling.specs.Queue.{lengths-kept}
+use Rattle.falling.specs.Fall.{Begin, OthersCounted}
+use Rattle.editing.specs.Started.{lengths-of, exact-kept, Edited}
+use Rattle.editing.specs.Names.{acquire-names, release-names, names-pass, own-refused}
 
-module _ (n : ℕ) (states links leaders holds counts : List ℕ) (p : ℕ) (o : Ready (storeOf n states links leaders holds counts)) where
-  abbrev s : Store
-  s = storeOf n states links leaders holds counts
+-- ---- the leader of a frozen piece, and its count
 
+-- the leader of p
+abbrev leads : Store → ℕ → ℕ
+leads s p = s .leaders ! p
+
+-- the store where p has h holds and its leader the count c
+abbrev withHold : Store → ℕ → ℕ → ℕ → Store
+withHold s p h c =
+    record { base = withHolds (s .base) (set (s .base .holds) p h); leaders = s .leaders; counts = set (s .counts) (leads s p) c }
+
+module _ {s : Store} {p : ℕ} (o : Ready s) (below : p < s .base .n) (live : s .base .states ! p ≡ 0 → ⊥) (other : s .base .states ! p ≡ 1 → ⊥) where
   abbrev b : Base
-  b = base n states links holds
+  b = s .base
 
-  -- the leader of p
   abbrev l : ℕ
-  l = leaders ! p
+  l = leads s p
 
-  module _ (below : p < n) (live : states ! p ≡ 0 → ⊥) (other : states ! p ≡ 1 → ⊥) where
-    p-frozen : Frozen b p
-    unfolding namesFree wrongState
-    p-frozen = record { below = below; is = live-frozen b p (wells-of s o p below) (free-right (Release p) s p 1 (release-names b p) below live) (state-right (Release p) s p 1 (release-names b p) below live other) }
+  p-frozen : Frozen b p
+  unfolding state isFree isDraft
+  p-frozen = record {
+    below = below;
+    is = live-frozen b p (wells-of s o p below) (neqb-of {m = b .states ! p} {n = 0} live) (neqb-of {m = b .states ! p} {n = 1} other);
+  }
 
-    label-p : label leaders p ≡ l
-    label-p = getD-any leaders p none 0 (omega (arith, o .sized .leaders))
+  label-p : label (s .leaders) p ≡ l
+  label-p = getD-any (s .leaders) p none 0 (omega (arith, o .sized .leaders))
 
-    pub l-n : l < n
-    l-n = subst (λ (x : ℕ). x < n) label-p (label-below b leaders (exact-of s o) p p-frozen)
+  l-n : l < b .n
+  l-n = subst (λ (x : ℕ). x < b .n) label-p (label-below b (s .leaders) (exact-of s o) p p-frozen)
 
-    pub hold-sizes : (p < length states) × (p < length leaders) × (p < length holds) × (l < length counts)
-    hold-sizes = (omega (arith, o .sized .base .states), omega (arith, o .sized .leaders), omega (arith, o .sized .base .holds), omega (arith, o .sized .counts, l-n))
+  -- the count of p's leader can be read, and one more fits
+  pub leader-in : (b .n ≤ 1024) × (l < b .n) × (l < length (s .counts)) × (s .counts ! l < 1028097)
+  leader-in = (o .sized .base .most, l-n, omega (arith, o .sized .counts, l-n), counts-most s o l l-n)
 
-    -- the holds of p become h
-    module _ (h : ℕ) (wells : (q : ℕ) → q < n → Well (base n states links (set holds p h)) q) where
-      abbrev e : Base
-      e = base n states links (set holds p h)
+  -- ---- the holds of p become h
 
-      frozen-e : (q : ℕ) → Frozen b q → Frozen e q
-      unfolding state
-      frozen-e q f = record { below = f .below; is = f .is }
+  module _ (h : ℕ) (wells : (q : ℕ) → q < b .n → Well (withHolds b (set (b .holds) p h)) q) where
+    abbrev e : Base
+    e = withHolds b (set (b .holds) p h)
 
-      frozen-b : (q : ℕ) → Frozen e q → Frozen b q
-      unfolding state
-      frozen-b q f = record { below = f .below; is = f .is }
+    exact-e : Exact e (s .leaders)
+    unfolding withHolds state linkAt
+    exact-e = exact-kept o refl (λ q. refl) wells (λ q j _ _. refl)
 
-      links-e : (q k : ℕ) → linkAt b q k ≡ linkAt e q k
-      unfolding linkAt
-      links-e q k = refl
+    match-e : (x : ℕ) → x + b .holds ! p ≡ s .counts ! l + h
+        → CountsMatch (b .n) (b .links) (set (b .holds) p h) (s .leaders) (set (s .counts) l x)
+    match-e x q =
+        match-hold (b .n) (b .links) (b .holds) (s .leaders) (s .counts) (o .sized .counts) (match-of s o) p h x l below
+        (omega (arith, o .sized .base .holds)) label-p l-n q
 
-      exact-e : Exact e leaders
-      exact-e =
-          exact-moves b e leaders (wells-of s o) wells
-          (record { size = refl; most = o .sized .base .most; frozen = frozen-e; links = λ q k _ _. links-e q k })
-          (record { size = refl; most = o .sized .base .most; frozen = frozen-b; links = λ q k _ _. sym (links-e q k) })
-          (exact-of s o)
+  -- ---- acquire
 
-      match-e : (x : ℕ) → x + holds ! p ≡ counts ! l + h → CountsMatch n links (set holds p h) leaders (set counts l x)
-      match-e x q =
-          match-hold n links holds leaders counts (o .sized .counts) (match-of s o) p h x l below (omega (arith, o .sized .base .holds)) label-p l-n q
+  pub acquire-limit : 1000 ≤ b .holds ! p → Did (Acquire p) s [] (effect (answered (Refused Limit)) s [])
+  unfolding atLimit holdsOf
+  acquire-limit h =
+      own-refused acquire-names below live other
+      (and-both (isFrozen b p) (leb 1000 (b .holds ! p)) (→isFrozen b p (p-frozen .is)) (le→leb 1000 (b .holds ! p) h), refl)
 
-    -- ---- acquire
-
-    pub acquire-limit : 1000 ≤ holds ! p → Did (Acquire p) s [] (effect (answered (Refused Limit)) s [])
+  module _ (few : b .holds ! p < 1000) where
+    acquire-passes : Passes b (Acquire p)
     unfolding atLimit holdsOf
-    acquire-limit h =
-        limit-refused (Acquire p) s p 1 (acquire-names b p) below live other []
-        (and-both (isFrozen b p) (leb 1000 (holds ! p)) (→isFrozen b p (p-frozen .is)) (le→leb 1000 (holds ! p) h))
+    acquire-passes =
+        names-pass acquire-names below live other (
+          not-T (isFrozen b p & leb 1000 (b .holds ! p))
+              (λ t. omega (arith, leb→le 1000 (b .holds ! p) (and-right (isFrozen b p) (leb 1000 (b .holds ! p)) t))),
+          tt,
+        )
 
-    module _ (few : holds ! p < 1000) where
-      acquire-passes : Passes b (Acquire p)
-      unfolding atLimit notHeld linked full holdsOf
-      acquire-passes = record {
-        number = number-right (Acquire p) s p 1 (acquire-names b p) below;
-        free = free-right (Acquire p) s p 1 (acquire-names b p) below live;
-        state = state-right (Acquire p) s p 1 (acquire-names b p) below live other;
-        limit = not-T (isFrozen b p & leb 1000 (holds ! p)) (λ t. omega (arith, leb→le 1000 (holds ! p) (and-right (isFrozen b p) (leb 1000 (holds ! p)) t)));
-        held = tt;
-        linked = tt;
-        full = tt;
-      }
+    edit-more : edit b (Acquire p) ≡ withHolds b (set (b .holds) p (b .holds ! p + 1))
+    unfolding edit oneMore holdsOf
+    edit-more = refl
 
-      edit-more : edit b (Acquire p) ≡ base n states links (set holds p (holds ! p + 1))
-      unfolding edit oneMore withHolds holdsOf
-      edit-more = refl
+    wells-more : (q : ℕ) → q < b .n → Well (withHolds b (set (b .holds) p (b .holds ! p + 1))) q
+    unfolding withHolds
+    wells-more = subst (λ (x : Base). (q : ℕ) → q < x .n → Well x q) edit-more (edit-well b (o .sized .base) (good-of s o) (Acquire p) acquire-passes)
 
-      wells-more : (q : ℕ) → q < n → Well (base n states links (set holds p (holds ! p + 1))) q
-      wells-more = subst (λ (x : Base). (q : ℕ) → q < x .n → Well x q) edit-more (edit-well b (o .sized .base) (good-of s o) (Acquire p) acquire-passes)
+    abbrev s′ : Store
+    s′ = withHold s p (b .holds ! p + 1) (s .counts ! l + 1)
 
-      pub acquired : Did (Acquire p) s [] (effect (answered (Done none 0)) (storeOf n states links leaders (set holds p (holds ! p + 1)) (set counts l (counts ! l + 1))) [])
-      acquired = record { exact = tables ∙ turned ∙ judged }
-        where
-          e₁ : Base
-          e₁ = base n states links (set holds p (holds ! p + 1))
+    next-is : s′ ≡ nextStore s (Acquire p)
+    unfolding nextStore after settles edit oneMore holdsOf withHolds
+    next-is =
+        finished (s′ .base) (s .leaders) (exact-e (b .holds ! p + 1) wells-more) wells-more (s′ .counts)
+        (length-set (s .counts) l (s .counts ! l + 1) ∙ o .sized .counts) (match-e (b .holds ! p + 1) wells-more (s .counts ! l + 1) (omega arith))
 
-          tables : effect (answered (Done none 0)) (storeOf n states links leaders (set holds p (holds ! p + 1)) (set counts l (counts ! l + 1))) [] ≡ effect (answered (Done none 0)) (finish e₁) []
-          tables = ap (λ (x : Store). effect (answered (Done none 0)) x [])
-              (finished e₁ leaders (exact-e (holds ! p + 1) wells-more) wells-more (set counts l (counts ! l + 1)) (length-set counts l (counts ! l + 1) ∙ o .sized .counts)
-              (match-e (holds ! p + 1) wells-more (counts ! l + 1) (omega arith)))
+    pub acquired : {r : Answer} → r ≡ fresh → Did (Acquire p) s [] (effect (answered r) s′ [])
+    unfolding acceptedBy doneBy valueOf freedBy settles listing
+    acquired is = record {
+      exact = (λ i. record { reply = answered (is i); store = next-is i; list = [] }) ∙ did-accepted (Acquire p) s [] (accepts acquire-passes) .exact;
+    }
 
-          turned : effect (answered (Done none 0)) (finish e₁) [] ≡ effected s [] (Acquire p) accepted
-          turned = unfold effected acceptedBy doneBy valueOf nextStore after freedBy settles listing edit oneMore withHolds holdsOf in refl
+-- ---- release
 
-          judged : effected s [] (Acquire p) accepted ≡ effectOf s [] (Acquire p)
-          judged = unfold effectOf in ap (effected s [] (Acquire p)) (sym (accepts b (Acquire p) acquire-passes))
+module _ {s : Store} {list : List ℕ} {p : ℕ} (below : p < s .base .n) (live : s .base .states ! p ≡ 0 → ⊥) (other : s .base .states ! p ≡ 1 → ⊥) where
+  pub release-held : s .base .holds ! p ≡ 0 → Did (Release p) s list (effect (answered (Refused NotHeld)) s list)
+  unfolding notHeld holdsOf
+  release-held h = own-refused release-names below live other (eqb-of {m = s .base .holds ! p} {n = 0} h, refl)
 
-    -- ---- release
+-- a release that is accepted, on sound tables, with room for the list
+pub record Releasing (s : Store) (list : List ℕ) (p : ℕ) : Type 0 where
+  pub ready : Ready s
+  pub room : s .base .n ≤ length list
+  pub below : p < s .base .n
+  pub live : s .base .states ! p ≡ 0 → ⊥
+  pub other : s .base .states ! p ≡ 1 → ⊥
+  pub some : s .base .holds ! p ≡ 0 → ⊥
 
-    pub release-held : (list : List ℕ) → holds ! p ≡ 0 → Did (Release p) s list (effect (answered (Refused NotHeld)) s list)
-    unfolding atLimit notHeld holdsOf
-    release-held list h = held-refused (Release p) s p 1 (release-names b p) below live other list tt (eqb-of {m = holds ! p} {n = 0} h)
+module _ {s : Store} {list : List ℕ} {p : ℕ} (g : Releasing s list p) where
+  abbrev led : (leads s p < s .base .n) × (label (s .leaders) p ≡ leads s p)
+  led = (l-n (g .ready) (g .below) (g .live) (g .other), label-p (g .ready) (g .below) (g .live) (g .other))
 
-    module _ (some : holds ! p ≡ 0 → ⊥) where
-      release-passes : Passes b (Release p)
-      unfolding atLimit notHeld linked full holdsOf
-      release-passes = record {
-        number = number-right (Release p) s p 1 (release-names b p) below;
-        free = free-right (Release p) s p 1 (release-names b p) below live;
-        state = state-right (Release p) s p 1 (release-names b p) below live other;
-        limit = tt;
-        held = neqb-of {m = holds ! p} {n = 0} some;
-        linked = tt;
-        full = tt;
-      }
+  l-counted : 0 < s .counts ! leads s p
+  l-counted =
+      omega (
+        arith,
+        g .some,
+        hold-counts (s .base .n) (s .base .links) (s .base .holds) (s .leaders) p (leads s p) (g .below) (led .1),
+        match-of s (g .ready) (leads s p) (led .0),
+      )
 
-      edit-less : base n states links (set holds p (holds ! p - 1)) ≡ edit b (Release p)
-      unfolding edit oneLess withHolds holdsOf
-      edit-less = refl
+  -- the count of p's leader can be read, and one less is a count
+  pub released-in : (s .base .n ≤ 1024) × (leads s p < s .base .n) × (leads s p < length (s .counts)) × (0 < s .counts ! leads s p)
+  released-in = (g .ready .sized .base .most, led .0, omega (arith, g .ready .sized .counts, led .0), l-counted)
 
-      wells-less : (q : ℕ) → q < n → Well (base n states links (set holds p (holds ! p - 1))) q
-      wells-less = subst (λ (x : Base). (q : ℕ) → q < x .n → Well x q) (sym edit-less) (edit-well b (o .sized .base) (good-of s o) (Release p) release-passes)
+  release-passes : Passes (s .base) (Release p)
+  unfolding notHeld holdsOf
+  release-passes = names-pass release-names (g .below) (g .live) (g .other) (neqb-of {m = s .base .holds ! p} {n = 0} (g .some), tt)
 
-      pub l-counted : 0 < counts ! l
-      l-counted = omega (arith, some, hold-counts n links holds leaders p l below label-p, match-of s o l l-n)
+  abbrev s₁ : Store
+  s₁ = withHold s p (s .base .holds ! p - 1) (s .counts ! leads s p - 1)
 
-      -- the counts after the release
-      abbrev counts₁ : List ℕ
-      counts₁ = set counts l (counts ! l - 1)
+  edit-less : s₁ .base ≡ edit (s .base) (Release p)
+  unfolding edit oneLess holdsOf
+  edit-less = refl
 
-      -- the holds after the release
-      abbrev holds₁ : List ℕ
-      holds₁ = set holds p (holds ! p - 1)
+  wells-less : (q : ℕ) → q < s .base .n → Well (s₁ .base) q
+  unfolding withHolds
+  wells-less =
+      subst (λ (x : Base). (q : ℕ) → q < x .n → Well x q) (sym edit-less)
+      (edit-well (s .base) (g .ready .sized .base) (good-of s (g .ready)) (Release p) release-passes)
 
-      -- no group but that of p has lost its count
-      over-release : OverBut (base n states links holds₁) leaders states counts₁ (p ∷ [])
-      over-release L h own _ off =
-          let d : L ≡ l → ⊥ = λ x. off p (first refl) (label-p ∙ sym x) in
-          subst (λ (x : ℕ). 0 < x) (sym (getD-set-other counts l L (counts ! l - 1) 0 d)) (counted-of s o L h own)
+  begin-release : Begin (s₁ .base) (s .leaders) (s₁ .counts) list
+  unfolding withHolds
+  begin-release = record {
+    known = record { exact = exact-e (g .ready) (g .below) (g .live) (g .other) (s .base .holds ! p - 1) wells-less; wells = wells-less };
+    matches =
+        match-e (g .ready) (g .below) (g .live) (g .other) (s .base .holds ! p - 1) wells-less (s .counts ! leads s p - 1)
+        (omega (arith, g .some, l-counted));
+    lengths = lengths-kept (lengths-of (g .ready) list (g .room)) refl refl (length-set (s .counts) (leads s p) (s .counts ! leads s p - 1)) refl;
+  }
 
-      module _ (list : List ℕ) (size : n ≤ length list) where
-        begin-release : Begin (base n states links holds₁) leaders counts₁ list
-        begin-release = record {
-          known = record { exact = exact-e (holds ! p - 1) wells-less; wells = wells-less };
-          matches = match-e (holds ! p - 1) wells-less (counts ! l - 1) (omega (arith, some, l-counted));
-          sizes = record {
-            small = o .sized .base .most;
-            leaders-n = o .sized .leaders;
-            states-n = o .sized .base .states;
-            links-n = o .sized .base .links;
-            counts-n = length-set counts l (counts ! l - 1) ∙ o .sized .counts;
-            queue-n = size;
-          };
-        }
+  -- no group but that of p has lost its count
+  counted-release : OthersCounted (s₁ .base) (s .leaders) (s₁ .base .states) (s₁ .counts) (p ∷ [])
+  unfolding withHolds
+  counted-release L h own _ off =
+      let d : L ≡ leads s p → ⊥ = λ x. off p (first refl) (led .1 ∙ sym x) in
+      subst (λ (x : ℕ). 0 < x) (sym (getD-set-other (s .counts) (leads s p) L (s .counts ! leads s p - 1) 0 d)) (counted-of s (g .ready) L h own)
 
-        pub release-tipping : Tipping n states leaders counts₁ list p 0
-        release-tipping = one-tipping n states links holds₁ leaders counts₁ list begin-release p over-release
-
-        module _ (states₁ list₁ : List ℕ) (first₁ : ℕ) (f : Tipped n states leaders counts₁ list p 0 states₁ list₁ first₁) where
-          all-fallen : Falling (base n states links holds₁) leaders states₁ counts₁ list₁ first₁ []
-          all-fallen = one-fallen n states links holds₁ leaders counts₁ list begin-release p over-release states₁ list₁ first₁ f
-
-          pub release-going : Going n leaders states₁ links counts₁ list₁ 0 first₁
-          release-going = started n states links holds₁ leaders counts₁ list begin-release states₁ list₁ first₁ all-fallen
-
-          pub released : length list₁ ≡ length list → (states′ links′ leaders′ counts′ list′ : List ℕ) (r : ℕ)
-              → Freed n states₁ links leaders counts₁ list₁ first₁ states′ links′ leaders′ counts′ list′ r
-              → Accepted (Release p) s list (storeOf n states′ links′ leaders′ holds₁ counts′) list′ r
-          unfolding settles acceptedBy doneBy valueOf
-          released same states′ links′ leaders′ counts′ list′ r z =
-              settled-did (Release p) s list (base n states links holds₁) edit-less refl states′ links′ leaders′ counts′ list′ r
-              (accepts b (Release p) release-passes) refl (o .sized .base .most)
-              (started-settled n states links holds₁ leaders counts₁ list begin-release states₁ list₁ first₁ all-fallen
-              (length-set holds p (holds ! p - 1) ∙ o .sized .base .holds) same (f .rest) states′ links′ leaders′ counts′ list′ r z)
+  pub release-edited : Edited (Release p) s list (s₁ .base) (s₁ .counts) (p ∷ [])
+  unfolding settles acceptedBy doneBy valueOf withHolds
+  release-edited = record {
+    passes = release-passes;
+    on = refl;
+    says = refl;
+    is = edit-less;
+    holds-n = length-set (s .base .holds) p (s .base .holds ! p - 1) ∙ g .ready .sized .base .holds;
+    begin = begin-release;
+    counted = counted-release;
+  }

@@ -13,13 +13,12 @@ use Rattle.rules.specs.Tests.{_&_, onlyIf}
 use Rattle.rules.specs.Below.{any, sum}
 use Rattle.rules.specs.Tables.{Base, linkAt}
 use Rattle.rules.specs.Commands.{isLinked}
-use Rattle.laws.specs.Tests.{and-both, and-left, and-right}
-use Rattle.laws.specs.Below.{T-dec, some→, →some, sum-next}
+use Rattle.laws.specs.Tests.{and-both, and-left, and-right, same-test}
+use Rattle.laws.specs.Below.{T-dec, some→, →some, sum-next, sum-change}
 use Rattle.laws.specs.Words.{eqb-of, neqb-of}
 use Rattle.laws.specs.Kept.{sum-term}
-use Rattle.laws.specs.Delta.{sum-change}
+use Rattle.rules.specs.Lists.{_!_}
 use Rattle.tallies.specs.Sums.{sum-cong, onlyIf-true, onlyIf-false}
-use Rattle.tallies.specs.Tally.{_!_}
 use Rattle.tallies.specs.Exact.{sum-flat}
 
 -- 1 where place i names p
@@ -44,13 +43,13 @@ pub namings-none : (links : List ℕ) (p : ℕ) → 0 ≡ namings links p 0
 unfolding namings sum
 namings-none links p = refl
 
-pub namings-hit : (links : List ℕ) (p k c : ℕ) → c ≡ namings links p k → links ! k ≡ p → c + 1 ≡ namings links p (k + 1)
+pub namings-hit : {p c : ℕ} (links : List ℕ) (k : ℕ) → c ≡ namings links p k → links ! k ≡ p → c + 1 ≡ namings links p (k + 1)
 unfolding namings naming
-namings-hit links p k c e h = omega (arith, sum-next (naming links p) k, onlyIf-true _ 1 (eq-eqb (links ! k) p h))
+namings-hit {p} links k e h = omega (arith, sum-next (naming links p) k, onlyIf-true _ 1 (eq-eqb (links ! k) p h))
 
-pub namings-miss : (links : List ℕ) (p k c : ℕ) → c ≡ namings links p k → (links ! k ≡ p → ⊥) → c ≡ namings links p (k + 1)
+pub namings-miss : {p c : ℕ} (links : List ℕ) (k : ℕ) → c ≡ namings links p k → (links ! k ≡ p → ⊥) → c ≡ namings links p (k + 1)
 unfolding namings naming
-namings-miss links p k c e h = omega (arith, sum-next (naming links p) k, onlyIf-false _ 1 (ne-eqb (links ! k) p h))
+namings-miss {p} links k e h = omega (arith, sum-next (naming links p) k, onlyIf-false _ 1 (ne-eqb (links ! k) p h))
 
 -- ---- one term, and two
 
@@ -85,33 +84,32 @@ module _ (n : ℕ) (links part : List ℕ) (p : ℕ) (below : p < n) (own : (k :
 
   own-of : namings part p 4 ≡ of p
   unfolding namings naming
-  own-of = sum-cong (λ k. onlyIf (eqb (part ! k) p) 1) (λ k. onlyIf (eqb (links ! (4 * p + k)) p) 1) 4 (λ k h. ap (λ (x : ℕ). onlyIf (eqb x p) 1) (own k h))
+  own-of =
+      sum-cong (λ k. onlyIf (eqb (part ! k) p) 1) (λ k. onlyIf (eqb (links ! (4 * p + k)) p) 1) 4
+      (λ k h. ap (λ (x : ℕ). onlyIf (eqb x p) 1) (own k h))
 
-  pub more-linked : (namings links p (4 * n) ≡ namings part p 4 → ⊥) → true ≡ linkedTo n links p
+  more-linked : (namings links p (4 * n) ≡ namings part p 4 → ⊥) → true ≡ linkedTo n links p
   unfolding linkedTo naming
-  more-linked d = ⊎-elim (λ t. sym (is-true (linkedTo n links p) t)) (λ t. absurd (d (all-of ∙ sum-one of n p below (λ r l x. none-of t r l x) ∙ sym own-of))) (T-dec (linkedTo n links p))
+  more-linked d =
+      ⊎-elim
+      (λ t. same-test true (linkedTo n links p) (λ _. t) (λ _. tt))
+      (λ t. absurd (d (all-of ∙ sum-one of n p below (λ r l x. none-of t r l x) ∙ sym own-of)))
+      (T-dec (linkedTo n links p))
     where
-      is-true : (x : Bool) → T x → x ≡ true
-      is-true true t = refl
-      is-true false t = absurd t
-
       none-of : T (not (linkedTo n links p)) → (r : ℕ) → r < n → (r ≡ p → ⊥) → of r ≡ 0
       none-of t r l x =
           sum-cong (λ k. naming links p (4 * r + k)) (λ _. 0) 4
           (λ k h. onlyIf-false _ 1 (ne-eqb (links ! (4 * r + k)) p (λ y.
           T-not (linkedTo n links p) t
           (→some (λ q. not (eqb q p) & any (λ j. eqb (links ! (4 * q + j)) p) 4) n r l
-          (and-both (not (eqb r p)) (any (λ j. eqb (links ! (4 * r + j)) p) 4) (neqb-of {m = r} {n = p} x) (→some (λ j. eqb (links ! (4 * r + j)) p) 4 k h (eqb-of {m = links ! (4 * r + k)} {n = p} y)))))))
+          (and-both (not (eqb r p)) (any (λ j. eqb (links ! (4 * r + j)) p) 4) (neqb-of {m = r} {n = p} x)
+          (→some (λ j. eqb (links ! (4 * r + j)) p) 4 k h (eqb-of {m = links ! (4 * r + k)} {n = p} y)))))))
           ∙ zero-sum 4
 
-  pub same-unlinked : namings links p (4 * n) ≡ namings part p 4 → false ≡ linkedTo n links p
+  same-unlinked : namings links p (4 * n) ≡ namings part p 4 → false ≡ linkedTo n links p
   unfolding linkedTo naming
-  same-unlinked e = ⊎-elim (λ t. absurd (linked t)) (λ t. sym (is-false (linkedTo n links p) t)) (T-dec (linkedTo n links p))
+  same-unlinked e = same-test false (linkedTo n links p) (λ f. absurd f) linked
     where
-      is-false : (x : Bool) → T (not x) → x ≡ false
-      is-false true t = absurd t
-      is-false false t = refl
-
       linked : T (linkedTo n links p) → ⊥
       linked t =
           let w = some→ (λ q. not (eqb q p) & any (λ j. eqb (links ! (4 * q + j)) p) 4) n t in
@@ -132,7 +130,7 @@ module _ (n : ℕ) (links part : List ℕ) (p : ℕ) (below : p < n) (own : (k :
 
 -- ---- the part of p's own four
 
-module _ (n : ℕ) (links : List ℕ) (p : ℕ) (size : length links ≡ 4 * n) (below : p < n) where
+module _ {n p : ℕ} (links : List ℕ) (size : length links ≡ 4 * n) (below : p < n) where
   abbrev four : List ℕ
   four = take (4 * p + 4 - 4 * p) (drop (4 * p) links)
 
@@ -142,7 +140,7 @@ module _ (n : ℕ) (links : List ℕ) (p : ℕ) (size : length links ≡ 4 * n) 
   four-at : (k : ℕ) → k < 4 → four ! k ≡ links ! (4 * p + k)
   four-at k h = getD-take (4 * p + 4 - 4 * p) (drop (4 * p) links) k 0 (omega arith) ∙ getD-drop (4 * p) links k 0
 
-  module _ (all own : ℕ) (a : all ≡ namings links p (length links)) (o : own ≡ namings four p (length four)) where
+  module _ {all own : ℕ} (a : all ≡ namings links p (length links)) (o : own ≡ namings four p (length four)) where
     all-is : all ≡ namings links p (4 * n)
     all-is = a ∙ ap (namings links p) size
 

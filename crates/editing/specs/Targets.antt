@@ -1,5 +1,5 @@
--- Set's tests on the numbers and the states that it names, and its refusals in 01's order.
-use mathlib.Core.Path.{_≡_, subst}
+-- Set's tests on the numbers and the states that it names, and its refusals in the rulebook's order.
+use mathlib.Core.Path.{_≡_, refl, subst}
 use mathlib.Core.Logic.{_⊎_, inl, inr, ⊎-elim}
 use mathlib.Core.Bool.{Bool, true, false, not}
 use mathlib.Core.List.{List}
@@ -9,17 +9,16 @@ use borrow.Author.Tests.{eq-eqb, ne-eqb, lt-ltb, le-ltb}
 use Rattle.rules.specs.Tests.{_&_, _or_}
 use Rattle.rules.specs.Limits.{none}
 use Rattle.rules.specs.Tables.{Base, Store, state, isFree, isFrozen}
-use Rattle.rules.specs.Commands.{wrongNumber, namesFree, wrongState, atLimit, notHeld, linked, full}
-use Rattle.rules.specs.Calls.{answered, effect, refusedBy, storeOf, Did}
+use Rattle.rules.specs.Commands.{noPiece, noPlace, noTarget, freeTarget, refusals}
+use Rattle.rules.specs.Calls.{answered, effect, refusedBy, Did}
 use Rattle.rules.specs.declared.Refusal.the-variants.{Number, Free, State}
 use Rattle.rules.specs.declared.Command.the-variants.{Set}
 use Rattle.rules.specs.declared.Answer.the-variants.{Refused}
 use Rattle.laws.specs.Tests.{or-cases}
 use Rattle.laws.specs.Words.{eqb-of, neqb-of}
 use Rattle.laws.specs.Passes.{Passes, not-or-left, not-or-right, not-not}
-use Rattle.tallies.specs.Tally.{_!_}
-use Rattle.falling.specs.Steps.{base}
-use Rattle.laws.specs.Verdicts.{by-number, by-free, by-state, did-refused}
+use Rattle.rules.specs.Lists.{_!_}
+use Rattle.laws.specs.Verdicts.{refuses, did-refused}
 
 -- ---- the tests
 
@@ -31,17 +30,17 @@ misnames n p k t = not (ltb p n) or not (ltb k 4) or not (eqb t none or ltb t n)
 unfoldable pub frees : List ℕ → ℕ → ℕ → Bool
 frees states p t = eqb (states ! p) 0 or not (eqb t none) & eqb (states ! t) 0
 
-module _ (n p k t : ℕ) where
-  pub wrong-piece : n ≤ p → true ≡ misnames n p k t
+module _ {n p : ℕ} where
+  pub wrong-piece : (k t : ℕ) → n ≤ p → true ≡ misnames n p k t
   unfolding misnames
-  wrong-piece h = rw (le-ltb p n h)
+  wrong-piece k t h = rw (le-ltb p n h)
 
   module _ (below : p < n) where
-    pub wrong-place : 4 ≤ k → true ≡ misnames n p k t
+    pub wrong-place : {k : ℕ} (t : ℕ) → 4 ≤ k → true ≡ misnames n p k t
     unfolding misnames
-    wrong-place h = rw (lt-ltb p n below, le-ltb k 4 h)
+    wrong-place {k} t h = rw (lt-ltb p n below, le-ltb k 4 h)
 
-    module _ (inside : k < 4) where
+    module _ {k t : ℕ} (inside : k < 4) where
       pub right-none : t ≡ none → false ≡ misnames n p k t
       unfolding misnames
       right-none h = rw (lt-ltb p n below, lt-ltb k 4 inside, eq-eqb t none h)
@@ -54,6 +53,7 @@ module _ (n p k t : ℕ) where
       unfolding misnames
       right-target d h = rw (lt-ltb p n below, lt-ltb k 4 inside, ne-eqb t none d, lt-ltb t n h)
 
+module _ (n p k t : ℕ) where
   -- what the test says where it fails
   pub named : false ≡ misnames n p k t → (p < n) × (k < 4) × ((t ≡ none) ⊎ (t < n))
   unfolding misnames
@@ -62,7 +62,8 @@ module _ (n p k t : ℕ) where
       let y = not-or-right (not (ltb p n)) (not (ltb k 4) or not (eqb t none or ltb t n)) x in (
         ltb→lt p n (not-not (ltb p n) (not-or-left (not (ltb p n)) (not (ltb k 4) or not (eqb t none or ltb t n)) x)),
         ltb→lt k 4 (not-not (ltb k 4) (not-or-left (not (ltb k 4)) (not (eqb t none or ltb t n)) y)),
-        ⊎-elim (λ z. inl (eqb→eq t none z)) (λ z. inr (ltb→lt t n z)) (or-cases (eqb t none) (ltb t n) (not-not (eqb t none or ltb t n) (not-or-right (not (ltb k 4)) (not (eqb t none or ltb t n)) y))),
+        ⊎-elim (λ z. inl (eqb→eq t none z)) (λ z. inr (ltb→lt t n z))
+            (or-cases (eqb t none) (ltb t n) (not-not (eqb t none or ltb t n) (not-or-right (not (ltb k 4)) (not (eqb t none or ltb t n)) y))),
       )
 
 module _ (states : List ℕ) (p t : ℕ) where
@@ -86,35 +87,36 @@ module _ (states : List ℕ) (p t : ℕ) where
 
 -- ---- the refusals
 
-module _ (n : ℕ) (states links leaders holds counts list : List ℕ) (p k t : ℕ) where
-  abbrev s : Store
-  s = storeOf n states links leaders holds counts
+module _ (b : Base) (p k t : ℕ) where
+  number-right : false ≡ misnames (b .n) p k t → T (not (noPiece b p or noPlace b k or noTarget b t))
+  unfolding misnames
+  number-right number = subst (λ (u : Bool). T (not u)) number tt
 
-  abbrev b : Base
-  b = base n states links holds
+  free-right : false ≡ frees (b .states) p t → T (not (isFree b p or freeTarget b t))
+  unfolding isFree state frees
+  free-right free = subst (λ (u : Bool). T (not u)) free tt
 
-  pub set-number : true ≡ misnames n p k t → Did (Set p k t) s list (effect (answered (Refused Number)) s list)
-  unfolding refusedBy wrongNumber misnames
-  set-number e = did-refused (Set p k t) s list Number (by-number b (Set p k t) (subst T e tt))
+module _ {s : Store} {list : List ℕ} {p k t : ℕ} where
+  pub set-number : true ≡ misnames (s .base .n) p k t → Did (Set p k t) s list (effect (answered (Refused Number)) s list)
+  unfolding refusedBy refusals misnames
+  set-number e = did-refused (Set p k t) s list Number (refuses 0 (s .base) (Set p k t) Number tt (subst T e tt, refl))
 
-  module _ (number : false ≡ misnames n p k t) where
-    number-right : T (not (wrongNumber b (Set p k t)))
-    unfolding wrongNumber misnames
-    number-right = subst (λ (u : Bool). T (not u)) number tt
+  module _ (number : false ≡ misnames (s .base .n) p k t) where
+    pub set-free : true ≡ frees (s .base .states) p t → Did (Set p k t) s list (effect (answered (Refused Free)) s list)
+    unfolding refusedBy refusals isFree state frees
+    set-free e =
+        did-refused (Set p k t) s list Free (refuses 1 (s .base) (Set p k t) Free (number-right (s .base) p k t number, tt) (subst T e tt, refl))
 
-    pub set-free : true ≡ frees states p t → Did (Set p k t) s list (effect (answered (Refused Free)) s list)
-    unfolding refusedBy namesFree isFree state frees
-    set-free e = did-refused (Set p k t) s list Free (by-free b (Set p k t) number-right (subst T e tt))
+    pub set-state : false ≡ frees (s .base .states) p t → s .base .states ! p ≡ 2 → Did (Set p k t) s list (effect (answered (Refused State)) s list)
+    unfolding refusedBy refusals isFrozen state
+    set-state free e =
+        did-refused (Set p k t) s list State
+        (refuses 2 (s .base) (Set p k t) State (number-right (s .base) p k t number, (free-right (s .base) p k t free, tt))
+        (eqb-of {m = s .base .states ! p} {n = 2} e, refl))
 
-    module _ (free : false ≡ frees states p t) where
-      free-right : T (not (namesFree b (Set p k t)))
-      unfolding namesFree isFree state frees
-      free-right = subst (λ (u : Bool). T (not u)) free tt
-
-      pub set-state : states ! p ≡ 2 → Did (Set p k t) s list (effect (answered (Refused State)) s list)
-      unfolding refusedBy wrongState isFrozen state
-      set-state e = did-refused (Set p k t) s list State (by-state b (Set p k t) number-right free-right (eqb-of {m = states ! p} {n = 2} e))
-
-      pub set-passes : (states ! p ≡ 2 → ⊥) → Passes b (Set p k t)
-      unfolding wrongState atLimit notHeld linked full isFrozen state
-      set-passes d = record { number = number-right; free = free-right; state = neqb-of {m = states ! p} {n = 2} d; limit = tt; held = tt; linked = tt; full = tt }
+pub set-passes : {b : Base} {p k t : ℕ} → false ≡ misnames (b .n) p k t → false ≡ frees (b .states) p t → (b .states ! p ≡ 2 → ⊥)
+    → Passes b (Set p k t)
+unfolding refusals isFrozen state
+set-passes {b} {p} {k} {t} number free d = record {
+  rows = (number-right b p k t number, (free-right b p k t free, (neqb-of {m = b .states ! p} {n = 2} d, tt)));
+}

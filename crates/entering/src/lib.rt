@@ -1,5 +1,5 @@
 // How every call but start begins: the sizes, then the soundness.
-ghost use Rattle.rules.specs.Calls.{storeOf};
+ghost use Rattle.rules.specs.Tables.{storeOf};
 ghost use Rattle.entering.specs.Entered.{Entered};
 
 // How a call begins.
@@ -23,7 +23,8 @@ pub fn enter(
     room: usize,
     work: &mut [u32],
 ) -> Entry
-    ensures { λ r. ⌜ Entered (storeOf n (now (states .entry)) (now (links .entry)) (now (leaders .entry)) (now (holds .entry)) (now (counts .entry))) room (now (work .entry)) r (now (work .exit)) ⌝ }
+    ensures { λ r. ⌜ Entered (storeOf n (now (states .entry)) (now (links .entry)) (now (leaders .entry)) (now (holds .entry)) (now (counts .entry))) room
+        (now (work .entry)) r (now (work .exit)) ⌝ }
 {
     if !areas::sized(n, states, links, leaders, holds, counts) {
         return Entry::Short;

@@ -4,61 +4,70 @@ use mathlib.Core.Logic.{_⊎_, inl, inr, ⊎-elim}
 use mathlib.Core.List.{List}
 use Prim.Native.Nat.{ℕ, _+_, _-_, _*_, _/_, _%_, _≤_, _<_}
 use native.Mathlib.Omega.{arith}
-use lib.ListN.{length, set}
+use lib.ListN.{set}
 use lib.Seq.{getD-set-other}
+use Rattle.rules.specs.Lists.{_!_}
 use Rattle.rules.specs.Limits.{none}
 use Rattle.rules.specs.Tables.{Base, linkAt}
-use Rattle.rules.specs.Words.{Frozen, Well}
+use Rattle.rules.specs.Words.{Frozen}
 use Rattle.laws.specs.Passes.{frozen-of}
 use Rattle.tallies.specs.Sums.{getD-any}
-use Rattle.tallies.specs.Tally.{_!_, label}
-use Rattle.tallies.specs.Exact.{Exact, label-past, label-frozen, label-below, label-own}
-use Rattle.falling.specs.Queue.{Marked, Core, Past, Inv}
-use Rattle.falling.specs.Marking.{marked-keeps, marked-new, mark, room, tail-most, past-keeps, over-mark, over-leader}
-use Rattle.falling.specs.Erasing.{erase-in, erase-out, had, past-next, over-out, over-still, out-at}
+use Rattle.tallies.specs.Tally.{label}
+use Rattle.tallies.specs.Exact.{label-past, label-frozen, label-below, label-own}
+use Rattle.falling.specs.Queue.{Marked, Known, Core, spot, Past, Inv}
+use Rattle.falling.specs.Marking.{marked-keeps, marked-new, mark, room, past-keeps, counted-mark, counted-leader}
+use Rattle.falling.specs.Erasing.{erase-in, erase-out, had, past-next, counted-out, counted-still, out-at}
 
-abbrev pub base : ℕ → List ℕ → List ℕ → List ℕ → Base
-base n states links holds = record { n = n; states = states; links = links; holds = holds }
-
--- the base that the letting go began with, and its labels
-pub record Known (e : Base) (leaders : List ℕ) : Type 0 where
-  pub exact : Exact e leaders
-  pub wells : (p : ℕ) → p < e .n → Well e p
+-- the tables of e at capacity n
+abbrev pub ofCapacity : ℕ → Base → Base
+ofCapacity n e = record { n = n; states = e .states; links = e .links; holds = e .holds }
 
 -- a letting go is under way
 pub record Going (n : ℕ) (leaders states links counts queue : List ℕ) (m tail : ℕ) : Type 0 where
-  pub states₀ : List ℕ
-  pub links₀ : List ℕ
-  pub holds : List ℕ
-  pub known : Known (base n states₀ links₀ holds) leaders
-  pub inv : Inv (base n states₀ links₀ holds) leaders states links counts queue m tail
+  pub began : Base
+  pub known : Known (ofCapacity n began) leaders
+  pub inv : Inv (ofCapacity n began) leaders states links counts queue m tail
 
 -- whatever the letting go began with goes on; the queue grows, and later entries stay
 pub record Stepped (n : ℕ) (leaders states links counts queue : List ℕ) (m tail : ℕ) (states′ links′ counts′ queue′ : List ℕ) (m′ tail′ : ℕ) : Type 0 where
-  pub inv : (states₀ links₀ holds : List ℕ) → Known (base n states₀ links₀ holds) leaders → Inv (base n states₀ links₀ holds) leaders states links counts queue m tail → Inv (base n states₀ links₀ holds) leaders states′ links′ counts′ queue′ m′ tail′
+  pub inv : (began : Base) → Known (ofCapacity n began) leaders → Inv (ofCapacity n began) leaders states links counts queue m tail
+      → Inv (ofCapacity n began) leaders states′ links′ counts′ queue′ m′ tail′
   pub grows : tail ≤ tail′
   pub rest : (i : ℕ) → tail′ ≤ i → queue′ ! i ≡ queue ! i
 
-pub stepped-none : (n : ℕ) (leaders states links counts queue : List ℕ) (m tail : ℕ) → Stepped n leaders states links counts queue m tail states links counts queue m tail
-stepped-none n leaders states links counts queue m tail = record { inv = λ s l h k v. v; grows = omega arith; rest = λ i _. refl }
+module _ {n : ℕ} {leaders states links counts queue : List ℕ} {m tail : ℕ} where
+  pub stepped-none : Stepped n leaders states links counts queue m tail states links counts queue m tail
+  stepped-none = record { inv = λ b k v. v; grows = omega arith; rest = λ i _. refl }
 
-pub stepped-on : (n : ℕ) (leaders states links counts queue : List ℕ) (m tail : ℕ) (states₁ links₁ counts₁ queue₁ : List ℕ) (m₁ tail₁ : ℕ) (states₂ links₂ counts₂ queue₂ : List ℕ) (m₂ tail₂ : ℕ)
-    → Stepped n leaders states links counts queue m tail states₁ links₁ counts₁ queue₁ m₁ tail₁ → Stepped n leaders states₁ links₁ counts₁ queue₁ m₁ tail₁ states₂ links₂ counts₂ queue₂ m₂ tail₂ → Stepped n leaders states links counts queue m tail states₂ links₂ counts₂ queue₂ m₂ tail₂
-stepped-on n leaders states links counts queue m tail states₁ links₁ counts₁ queue₁ m₁ tail₁ states₂ links₂ counts₂ queue₂ m₂ tail₂ a b = record {
-  inv = λ s l h k v. b .inv s l h k (a .inv s l h k v);
-  grows = omega (arith, a .grows, b .grows);
-  rest = λ i h. b .rest i h ∙ a .rest i (omega (arith, b .grows));
-}
+  module _ {states₁ links₁ counts₁ queue₁ : List ℕ} {m₁ tail₁ : ℕ} where
+    pub stepped-on : {states₂ links₂ counts₂ queue₂ : List ℕ} {m₂ tail₂ : ℕ}
+        → Stepped n leaders states links counts queue m tail states₁ links₁ counts₁ queue₁ m₁ tail₁
+        → Stepped n leaders states₁ links₁ counts₁ queue₁ m₁ tail₁ states₂ links₂ counts₂ queue₂ m₂ tail₂
+        → Stepped n leaders states links counts queue m tail states₂ links₂ counts₂ queue₂ m₂ tail₂
+    stepped-on a b = record {
+      inv = λ e k v. b .inv e k (a .inv e k v);
+      grows = omega (arith, a .grows, b .grows);
+      rest = λ i h. b .rest i h ∙ a .rest i (omega (arith, b .grows));
+    }
 
-pub going-on : (n : ℕ) (leaders states links counts queue : List ℕ) (m tail : ℕ) (states₁ links₁ counts₁ queue₁ : List ℕ) (m₁ tail₁ : ℕ) → Going n leaders states links counts queue m tail → Stepped n leaders states links counts queue m tail states₁ links₁ counts₁ queue₁ m₁ tail₁ → Going n leaders states₁ links₁ counts₁ queue₁ m₁ tail₁
-going-on n leaders states links counts queue m tail states₁ links₁ counts₁ queue₁ m₁ tail₁ g a = record { states₀ = g .states₀; links₀ = g .links₀; holds = g .holds; known = g .known; inv = a .inv (g .states₀) (g .links₀) (g .holds) (g .known) (g .inv) }
+    pub going-on : Going n leaders states links counts queue m tail → Stepped n leaders states links counts queue m tail states₁ links₁ counts₁ queue₁ m₁ tail₁
+        → Going n leaders states₁ links₁ counts₁ queue₁ m₁ tail₁
+    going-on g a = record { began = g .began; known = g .known; inv = a .inv (g .began) (g .known) (g .inv) }
 
-module _ (e : Base) (leaders states links counts queue : List ℕ) (m tail : ℕ) (k : Known e leaders) (v : Inv e leaders states links counts queue m tail) (h : m < 4 * tail) where
+    -- no place of the queue is left
+    pub stepped-all : Going n leaders states links counts queue m tail → Stepped n leaders states links counts queue m tail states₁ links₁ counts₁ queue₁ m₁ tail₁
+        → 4 * tail₁ ≤ m₁ → Stepped n leaders states links counts queue m tail states₁ links₁ counts₁ queue₁ (4 * tail₁) tail₁
+    stepped-all g a h =
+        let most = going-on g a .inv .place in
+        subst (λ (x : ℕ). Stepped n leaders states links counts queue m tail states₁ links₁ counts₁ queue₁ x tail₁) (omega arith) a
+
+module _ {e : Base} {leaders states links counts queue : List ℕ} {m tail : ℕ} (k : Known e leaders)
+    (v : Inv e leaders states links counts queue m tail) (h : m < 4 * tail) where
   abbrev x : ℕ
   x = queue ! (m / 4)
 
   abbrev i : ℕ
-  i = 4 * x + m % 4
+  i = spot queue m
 
   abbrev t : ℕ
   t = links ! i
@@ -69,10 +78,7 @@ module _ (e : Base) (leaders states links counts queue : List ℕ) (m tail : ℕ
   pub x-n : x < e .n
   x-n = gx .below
 
-  pub tail-n : tail ≤ e .n
-  tail-n = tail-most e leaders states links counts queue tail (v .core)
-
-  pub i-n : i < 4 * e .n
+  i-n : i < 4 * e .n
   i-n = omega (arith, x-n)
 
   own : i / 4 ≡ x
@@ -96,16 +102,8 @@ module _ (e : Base) (leaders states links counts queue : List ℕ) (m tail : ℕ
       (λ gap. inl (gap .empty))
       (v .core .places i i-n)
 
-  pub ready : (m / 4 < length queue) × (x ≤ 1024) × (x < length leaders) × (i < length links)
-  ready = (
-    omega (arith, tail-n, v .core .sizes .queue-n),
-    omega (arith, x-n, v .core .sizes .small),
-    omega (arith, x-n, v .core .sizes .leaders-n),
-    omega (arith, i-n, v .core .sizes .links-n),
-  )
-
   small : e .n ≤ 1024
-  small = v .core .sizes .small
+  small = v .core .lengths .small
 
   module _ (no-one : e .n ≤ t) where
     off-t : label leaders t ≡ none
@@ -116,9 +114,9 @@ module _ (e : Base) (leaders states links counts queue : List ℕ) (m tail : ℕ
 
     pub step-none : Inv e leaders states (set links i none) counts queue (m + 1) tail
     step-none = record {
-      core = erase-in e leaders states links counts queue tail (v .core) i i-n gi never (inl off-t);
-      over = v .over;
-      past = past-next e leaders states links counts queue tail (v .core) i i-n gi never m refl (v .past);
+      core = erase-in (v .core) i-n gi never (inl off-t);
+      counted = v .counted;
+      past = past-next (v .core) i-n gi never m refl (v .past);
       place = omega arith;
     }
 
@@ -126,14 +124,11 @@ module _ (e : Base) (leaders states links counts queue : List ℕ) (m tail : ℕ
     ft : Frozen e t
     ft = ⊎-elim (λ z. absurd (omega (arith, small))) (λ f. f) target
 
-    pub t-ready : (t < length leaders) × (t < length states)
-    t-ready = (omega (arith, v .core .sizes .leaders-n), omega (arith, v .core .sizes .states-n))
+    below-t : label leaders t < e .n
+    below-t = label-below e leaders (k .exact) t ft
 
     pub l-n : leaders ! t < e .n
-    l-n = subst (λ (u : ℕ). u < e .n) (label-at t some-t) (label-below e leaders (k .exact) t ft)
-
-    pub l-ready : (leaders ! t < length counts) × (leaders ! t < length states) × (leaders ! t ≤ 1024)
-    l-ready = (omega (arith, l-n, v .core .sizes .counts-n), omega (arith, l-n, v .core .sizes .states-n), omega (arith, l-n, small))
+    l-n = subst (λ (u : ℕ). u < e .n) (label-at t some-t) below-t
 
     -- the same label
     module _ (same : leaders ! t ≡ leaders ! x) where
@@ -145,22 +140,21 @@ module _ (e : Base) (leaders states links counts queue : List ℕ) (m tail : ℕ
 
       pub step-seen : states ! t ≡ 0 → Inv e leaders states (set links i none) counts queue (m + 1) tail
       step-seen z =
-          let g : label leaders t ≡ label leaders (i / 4) → Marked (e .n) leaders states t = λ _. record { below = some-t; free = z; labelled = label-below e leaders (k .exact) t ft } in
+          let g : label leaders t ≡ label leaders (i / 4) → Marked (e .n) leaders states t = λ _. record { below = some-t; free = z; labelled = below-t } in
           record {
-            core = erase-in e leaders states links counts queue tail (v .core) i i-n gi g (inr same-i);
-            over = v .over;
-            past = past-next e leaders states links counts queue tail (v .core) i i-n gi g m refl (v .past);
+            core = erase-in (v .core) i-n gi g (inr same-i);
+            counted = v .counted;
+            past = past-next (v .core) i-n gi g m refl (v .past);
             place = omega arith;
           }
 
       module _ (z : states ! t ≡ 0 → ⊥) where
         pub t-room : tail < e .n
-        t-room = room e leaders states links counts queue tail (v .core) t some-t z
+        t-room = room (v .core) some-t z
 
         core₁ : Core e leaders (set states t 0) links counts (set queue tail t) (tail + 1)
         core₁ =
-            mark e leaders states links counts queue tail (v .core) t some-t (label-below e leaders (k .exact) t ft) z
-            (ap (λ (u : ℕ). counts ! u) same-label ∙ v .core .zeros x gx)
+            mark (v .core) some-t below-t z (ap (λ (u : ℕ). counts ! u) same-label ∙ v .core .zeros x gx)
             (inr (subst (Marked (e .n) leaders states) (sym same-label) (v .core .led x gx)))
 
         x-still : set queue tail t ! (m / 4) ≡ x
@@ -168,15 +162,15 @@ module _ (e : Base) (leaders states links counts queue : List ℕ) (m tail : ℕ
 
         pub step-new : Inv e leaders (set states t 0) (set links i none) counts (set queue tail t) (m + 1) (tail + 1)
         step-new =
-            let l = label-below e leaders (k .exact) t ft in
-            let gi₁ : Marked (e .n) leaders (set states t 0) (i / 4) = marked-keeps (e .n) leaders states (v .core .sizes .states-n) t (i / 4) gi in
-            let g : label leaders t ≡ label leaders (i / 4) → Marked (e .n) leaders (set states t 0) t = λ _. marked-new (e .n) leaders states (v .core .sizes .states-n) t some-t l in
+            let gi₁ : Marked (e .n) leaders (set states t 0) (i / 4) = marked-keeps (v .core .lengths .states-n) t gi in
+            let g : label leaders t ≡ label leaders (i / 4) → Marked (e .n) leaders (set states t 0) t =
+            λ _. marked-new states (v .core .lengths .states-n) some-t below-t in
             record {
-              core = erase-in e leaders (set states t 0) links counts (set queue tail t) (tail + 1) core₁ i i-n gi₁ g (inr same-i);
-              over = over-mark e leaders states links counts queue tail (v .core) t some-t l z (v .over);
+              core = erase-in core₁ i-n gi₁ g (inr same-i);
+              counted = counted-mark (v .core) some-t below-t z (v .counted);
               past =
-                  past-next e leaders (set states t 0) links counts (set queue tail t) (tail + 1) core₁ i i-n gi₁ g m (ap (λ (u : ℕ). 4 * u + m % 4) x-still)
-                  (past-keeps e leaders states links counts queue tail (v .core) t some-t l z m (v .place) (v .past));
+                  past-next core₁ i-n gi₁ g m (ap (λ (u : ℕ). 4 * u + m % 4) x-still)
+                  (past-keeps (v .core) some-t below-t z m (v .place) (v .past));
               place = omega arith;
             }
 
@@ -194,19 +188,19 @@ module _ (e : Base) (leaders states links counts queue : List ℕ) (m tail : ℕ
       nope : label leaders t ≡ label leaders (i / 4) → Marked (e .n) leaders states t
       nope s = absurd (off-L (sym s ∙ at-L))
 
-      pub counted : 0 < counts ! L
-      counted = had e leaders states links counts queue tail (v .core) i i-n gi nope L at-L l-n off-L
+      pub l-counted : 0 < counts ! L
+      l-counted = had (v .core) i-n gi nope at-L l-n off-L
 
       core₂ : Core e leaders states (set links i none) (set counts L (counts ! L - 1)) queue tail
-      core₂ = erase-out e leaders states links counts queue tail (v .core) i i-n gi nope L at-L l-n off-L
+      core₂ = erase-out (v .core) i-n gi nope at-L l-n off-L
 
       past₂ : Past e leaders states (set links i none) queue (m + 1)
-      past₂ = past-next e leaders states links counts queue tail (v .core) i i-n gi nope m refl (v .past)
+      past₂ = past-next (v .core) i-n gi nope m refl (v .past)
 
       pub step-out : (counts ! L - 1 ≡ 0 → ⊥) → Inv e leaders states (set links i none) (set counts L (counts ! L - 1)) queue (m + 1) tail
       step-out nz = record {
         core = core₂;
-        over = over-still e leaders states links counts queue tail (v .core) i i-n gi nope L at-L l-n off-L nz (v .over);
+        counted = counted-still (v .core) i-n gi nope at-L l-n off-L nz (v .counted);
         past = past₂;
         place = omega arith;
       }
@@ -214,22 +208,24 @@ module _ (e : Base) (leaders states links counts queue : List ℕ) (m tail : ℕ
       own-L : label leaders L ≡ L
       own-L = subst (λ (u : ℕ). label leaders u ≡ u) at-L (label-own e leaders (k .exact) t ft)
 
+      below-L : label leaders L < e .n
+      below-L = subst (λ (u : ℕ). u < e .n) (sym own-L) l-n
+
       unmarked : states ! L ≡ 0 → ⊥
       unmarked z =
-          let g : Marked (e .n) leaders states L = record { below = l-n; free = z; labelled = subst (λ (u : ℕ). u < e .n) (sym own-L) l-n } in
-          omega (arith, counted, v .core .zeros L g, ap (λ (u : ℕ). counts ! u) own-L)
+          let g : Marked (e .n) leaders states L = record { below = l-n; free = z; labelled = below-L } in
+          omega (arith, l-counted, v .core .zeros L g, ap (λ (u : ℕ). counts ! u) own-L)
 
-      pub L-room : tail < e .n
-      L-room = room e leaders states links counts queue tail (v .core) L l-n unmarked
+      pub l-room : tail < e .n
+      l-room = room (v .core) l-n unmarked
 
-      pub step-zero : counts ! L - 1 ≡ 0 → Inv e leaders (set states L 0) (set links i none) (set counts L (counts ! L - 1)) (set queue tail L) (m + 1) (tail + 1)
+      pub step-zero : counts ! L - 1 ≡ 0
+          → Inv e leaders (set states L 0) (set links i none) (set counts L (counts ! L - 1)) (set queue tail L) (m + 1) (tail + 1)
       step-zero z =
-          let l : label leaders L < e .n = subst (λ (u : ℕ). u < e .n) (sym own-L) l-n in
-          let c = set counts L (counts ! L - 1) in
-          let n-L : c ! L ≡ 0 = out-at e leaders states links counts queue tail (v .core) i i-n gi nope L at-L l-n off-L ∙ z in
+          let n-L : set counts L (counts ! L - 1) ! L ≡ 0 = out-at (v .core) i-n gi nope at-L l-n off-L ∙ z in
           record {
-            core = mark e leaders states (set links i none) c queue tail core₂ L l-n l unmarked (ap (λ (u : ℕ). c ! u) own-L ∙ n-L) (inl own-L);
-            over = over-leader e leaders states (set links i none) c queue tail core₂ L l-n l unmarked l-n (over-out e leaders states links counts queue tail (v .core) i i-n gi nope L at-L l-n off-L (v .over));
-            past = past-keeps e leaders states (set links i none) c queue tail core₂ L l-n l unmarked (m + 1) (omega arith) past₂;
+            core = mark core₂ l-n below-L unmarked (ap (λ (u : ℕ). set counts L (counts ! L - 1) ! u) own-L ∙ n-L) (inl own-L);
+            counted = counted-leader core₂ l-n below-L unmarked (counted-out (v .core) i-n gi nope at-L l-n off-L (v .counted));
+            past = past-keeps core₂ l-n below-L unmarked (m + 1) (omega arith) past₂;
             place = omega arith;
           }

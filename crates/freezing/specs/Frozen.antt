@@ -1,9 +1,9 @@
 -- Freeze of a draft: what the search finished, turned, is what the rules freeze, with the leaders and counts of the finished store.
 use mathlib.Core.Path.{_≡_, sym, ap, _∙_, subst}
 use mathlib.Core.List.{List}
-use mathlib.Core.Logic.{_⊎_, inr, ⊎-elim}
+use mathlib.Core.Logic.{inr, ⊎-elim}
 use mathlib.Core.Bool.{not}
-use Prim.Native.Nat.{ℕ, _+_, _*_, _<_}
+use Prim.Native.Nat.{ℕ, _<_}
 use native.Mathlib.Omega.{arith}
 use lib.Dec.{T, T-not}
 use lib.ListN.{length, getD, set}
@@ -11,34 +11,33 @@ use lib.Seq.{ext-getD}
 use Rattle.rules.specs.Tests.{_&_, pick}
 use Rattle.rules.specs.Limits.{none}
 use Rattle.rules.specs.Below.{table}
-use Rattle.rules.specs.Tables.{Base, Store, state, isDraft, isFrozen, linkAt, reaches, finish}
+use Rattle.rules.specs.Tables.{Base, Store, state, isDraft, isFrozen, linkAt, reaches, finish, storeOf}
 use Rattle.rules.specs.Words.{Frozen, Reaches, Leader}
 use Rattle.rules.specs.Commands.{oneMore, freezeFirst, edit, settles, after, nextStore}
-use Rattle.rules.specs.Calls.{storeOf}
 use Rattle.rules.specs.declared.Command.the-variants.{Freeze}
+use Rattle.rules.specs.Lists.{_!_}
 use Rattle.laws.specs.Tests.{and-both, and-left, and-right}
 use Rattle.laws.specs.Below.{T-dec, pick-true, pick-false, length-table, getD-table}
 use Rattle.laws.specs.Words.{end-below, isDraft→, →isDraft, not-frozen, reaches→, →reaches}
 use Rattle.laws.specs.Sound.{Good}
 use Rattle.laws.specs.Edits.Freeze.{freeze-first-good}
+use Rattle.paths.specs.Search.{finishedMark}
+use Rattle.paths.specs.Classes.{frozen-stays, lead-leader}
+use Rattle.groups.specs.Grouped.{Grouped, ReachedFrom}
 use Rattle.tallies.specs.Sums.{getD-any}
 use Rattle.tallies.specs.Tally.{label, CountsMatch}
 use Rattle.tallies.specs.Exact.{Exact}
 use Rattle.tallies.specs.Stores.{good-of, exact-of}
 use Rattle.tallies.specs.Finished.{finished}
-use Rattle.paths.specs.Ground.{_!_}
-use Rattle.paths.specs.Search as search
-use Rattle.paths.specs.Classes.{frozen-stays, lead-leader}
-use Rattle.groups.specs.Marked.{Marked, Reached}
-use Rattle.recounting.specs.Turned.{Turned}
-use Rattle.freezing.specs.Draft.{Draft}
+use Rattle.recounting.specs.MadeFrozen.{MadeFrozen}
+use Rattle.freezing.specs.Freezable.{Freezable}
 
-module _ (n : ℕ) (states links leaders holds counts work : List ℕ) (p : ℕ) (d : Draft n states links leaders holds counts work p) where
-  abbrev s : Store
-  s = storeOf n states links leaders holds counts
-
+module _ {s : Store} {work : List ℕ} {p : ℕ} (d : Freezable s work p) where
   abbrev b : Base
   b = s .base
+
+  abbrev n : ℕ
+  n = b .n
 
   -- the base after the freeze
   b′ : Base
@@ -51,20 +50,21 @@ module _ (n : ℕ) (states links leaders holds counts work : List ℕ) (p : ℕ)
   unfolding b′ state
   good′ = freeze-first-good b (d .ready .sized .base) good p (d .below) (d .is)
 
-  module _ (work′ states′ leaders′ : List ℕ) (m : Marked n links (Reached n states links 1 p) work work′) (t : Turned n states leaders work′ n states′ leaders′) where
-    marked : (q : ℕ) → q < n → T (isDraft b q & reaches b p q) → work′ ! q ≡ search.finished
+  module _ {work′ states′ leaders′ : List ℕ} (m : Grouped (s .base .n) (s .base .links) (ReachedFrom (s .base .n) (s .base .states) (s .base .links) 1 p) work work′)
+      (t : MadeFrozen (s .base .n) (s .base .states) (s .leaders) work′ (s .base .n) states′ leaders′) where
+    finds : (q : ℕ) → q < n → T (isDraft b q & reaches b p q) → work′ ! q ≡ finishedMark
     unfolding linkAt state
-    marked q h u = m .all q h (isDraft→ b q h (and-left (isDraft b q) (reaches b p q) u) .is, reaches→ b p q (and-right (isDraft b q) (reaches b p q) u))
+    finds q h u = m .all q h (isDraft→ b q h (and-left (isDraft b q) (reaches b p q) u) .is, reaches→ b p q (and-right (isDraft b q) (reaches b p q) u))
 
-    turns : (q : ℕ) → q < n → work′ ! q ≡ search.finished → T (isDraft b q & reaches b p q)
+    turns : (q : ℕ) → q < n → work′ ! q ≡ finishedMark → T (isDraft b q & reaches b p q)
     unfolding linkAt state
     turns q h e = let r = m .«only» q h e in and-both (isDraft b q) (reaches b p q) (→isDraft b q (r .0)) (→reaches b p q h (r .1))
 
     state-at : (q : ℕ) → q < n → states′ ! q ≡ pick (isDraft b q & reaches b p q) 2 (state b q)
     unfolding state
     state-at q h = ⊎-elim
-        (λ u. t .on q h (marked q h u) .0 ∙ sym (pick-true (isDraft b q & reaches b p q) 2 (states ! q) u))
-        (λ u. t .off q (inr (λ e. T-not (isDraft b q & reaches b p q) u (turns q h e))) .0 ∙ sym (pick-false (isDraft b q & reaches b p q) 2 (states ! q) u))
+        (λ u. t .on q h (finds q h u) .0 ∙ sym (pick-true (isDraft b q & reaches b p q) 2 (b .states ! q) u))
+        (λ u. t .off q (inr (λ e. T-not (isDraft b q & reaches b p q) u (turns q h e))) .0 ∙ sym (pick-false (isDraft b q & reaches b p q) 2 (b .states ! q) u))
         (T-dec (isDraft b q & reaches b p q))
 
     states-are : states′ ≡ b′ .states
@@ -80,7 +80,7 @@ module _ (n : ℕ) (states links leaders holds counts work : List ℕ) (p : ℕ)
     unfolding state
     state-is q = ap (λ (l : List ℕ). getD l q 0) (sym states-are)
 
-    old : Exact b leaders
+    old : Exact b (s .leaders)
     old = exact-of s (d .ready)
 
     leaders-size : length leaders′ ≡ n
@@ -89,8 +89,8 @@ module _ (n : ℕ) (states links leaders holds counts work : List ℕ) (p : ℕ)
     label-at : (q : ℕ) → q < n → label leaders′ q ≡ leaders′ ! q
     label-at q h = getD-any leaders′ q none 0 (omega (arith, leaders-size))
 
-    old-at : (q : ℕ) → q < n → label leaders q ≡ leaders ! q
-    old-at q h = getD-any leaders q none 0 (omega (arith, old .size))
+    old-at : (q : ℕ) → q < n → label (s .leaders) q ≡ s .leaders ! q
+    old-at q h = getD-any (s .leaders) q none 0 (omega (arith, old .size))
 
     -- in the frozen store all that a frozen piece reaches is frozen
     frozen-all : (q r : ℕ) → Frozen b′ q → Reaches b′ q r → r < n → Frozen b′ r
@@ -111,15 +111,15 @@ module _ (n : ℕ) (states links leaders holds counts work : List ℕ) (p : ℕ)
 
         fresh : (q : ℕ) → Frozen b′ q → T (isDraft b q & reaches b p q) → Leader b′ q (label leaders′ q)
         fresh q f u =
-            let e = marked q (f .below) u in
+            let e = finds q (f .below) u in
             let l = m .leads q (f .below) (m .«only» q (f .below) e) in
             subst (Leader b′ q) (sym (label-at q (f .below) ∙ t .on q (f .below) e .1))
-            (lead-leader b′ q (work′ ! (2 * n + q)) (λ r x y. frozen-all q r f x (reach-below q r (f .below) x)) l)
+            (lead-leader (λ r x y. frozen-all q r f x (reach-below q r (f .below) x)) l)
 
         was-frozen : (q : ℕ) → Frozen b′ q → T (not (isDraft b q & reaches b p q)) → state b q ≡ 2
         was-frozen q f u = sym (state-at q (f .below) ∙ pick-false (isDraft b q & reaches b p q) 2 (state b q) u) ∙ sym (state-is q) ∙ f .is
 
-        not-marked : (q : ℕ) → q < n → T (not (isDraft b q & reaches b p q)) → leaders′ ! q ≡ leaders ! q
+        not-marked : (q : ℕ) → q < n → T (not (isDraft b q & reaches b p q)) → leaders′ ! q ≡ s .leaders ! q
         not-marked q h u = t .off q (inr (λ e. T-not (isDraft b q & reaches b p q) u (turns q h e))) .1
 
         stays : (q : ℕ) → Frozen b′ q → T (not (isDraft b q & reaches b p q)) → Leader b′ q (label leaders′ q)
@@ -128,7 +128,11 @@ module _ (n : ℕ) (states links leaders holds counts work : List ℕ) (p : ℕ)
             let x = old .leads q (record { below = f .below; is = w }) in
             subst (Leader b′ q) (sym (label-at q (f .below) ∙ not-marked q (f .below) u ∙ sym (old-at q (f .below))))
             (record {
-              member = record { frozen = frozen-all q (label leaders q) f (linked (x .member .there)) (x .member .frozen .below); there = linked (x .member .there); back = linked (x .member .back) };
+              member = record {
+                frozen = frozen-all q (label (s .leaders) q) f (linked (x .member .there)) (x .member .frozen .below);
+                there = linked (x .member .there);
+                back = linked (x .member .back);
+              };
               lowest = λ r g. x .lowest r (record {
                 frozen = record { below = g .frozen .below; is = frozen-stays b (d .ready .sized .base .most) (good .wells) w (unlinked (g .there)) };
                 there = unlinked (g .there);
@@ -144,20 +148,20 @@ module _ (n : ℕ) (states links leaders holds counts work : List ℕ) (p : ℕ)
 
         rest : (q : ℕ) → q < n → (state b′ q ≡ 2 → ⊥) → label leaders′ q ≡ none
         rest q h nf = ⊎-elim
-            (λ u. absurd (nf (state-is q ∙ t .on q h (marked q h u) .0)))
+            (λ u. absurd (nf (state-is q ∙ t .on q h (finds q h u) .0)))
             (λ u. label-at q h ∙ not-marked q h u ∙ sym (old-at q h)
             ∙ old .others q h (λ e. nf (state-is q ∙ state-at q h ∙ pick-false (isDraft b q & reaches b p q) 2 (state b q) u ∙ e)))
             (T-dec (isDraft b q & reaches b p q))
 
     -- ---- the whole freeze
 
-    pub frozen : (counts′ : List ℕ) → length counts′ ≡ n → CountsMatch n links (set holds p 1) leaders′ counts′
-        → storeOf n states′ links leaders′ (set holds p 1) counts′ ≡ nextStore s (Freeze p)
+    pub frozen : {counts′ : List ℕ} → length counts′ ≡ s .base .n → CountsMatch (s .base .n) (s .base .links) (set (s .base .holds) p 1) leaders′ counts′
+        → storeOf (s .base .n) states′ (s .base .links) leaders′ (set (s .base .holds) p 1) counts′ ≡ nextStore s (Freeze p)
     unfolding nextStore b′ freezeFirst
-    frozen counts′ z c = tables ∙ finished b′ leaders′ exact′ (good′ .wells) counts′ z c ∙ ap finish (sym after-is)
+    frozen {counts′} z c = tables ∙ finished b′ leaders′ exact′ (good′ .wells) counts′ z c ∙ ap finish (sym after-is)
       where
-        tables : storeOf n states′ links leaders′ (set holds p 1) counts′ ≡ record { base = b′; leaders = leaders′; counts = counts′ }
-        tables = ap (λ (x : List ℕ). storeOf n x links leaders′ (set holds p 1) counts′) states-are
+        tables : storeOf n states′ (b .links) leaders′ (set (b .holds) p 1) counts′ ≡ record { base = b′; leaders = leaders′; counts = counts′ }
+        tables = ap (λ (x : List ℕ). storeOf n x (b .links) leaders′ (set (b .holds) p 1) counts′) states-are
 
         after-is : after b (Freeze p) ≡ freezeFirst b p
         after-is = unfold after settles edit in (pick-false (isFrozen b p) (oneMore b p) (freezeFirst b p) (not-frozen b p 1 (unfold state in (d .is)) tt))

@@ -10,8 +10,10 @@ use lib.Dec.{eqb}
 use Rattle.rules.specs.Tests.{onlyIf}
 use Rattle.rules.specs.Limits.{none}
 use Rattle.rules.specs.Below.{sum}
-use Rattle.tallies.specs.Sums.{eq-or, sum-cong}
-use Rattle.tallies.specs.Tally.{_!_, label, cross, held, placed, tally}
+use Rattle.rules.specs.Lists.{_!_}
+use Rattle.laws.specs.Numbers.{eq-or}
+use Rattle.tallies.specs.Sums.{sum-cong}
+use Rattle.tallies.specs.Tally.{label, cross, held, placed, tally}
 use Rattle.tallies.specs.Moves.{cross-in, cross-off, cross-on}
 
 -- the label of t is the first table's or the second's, and the other has none
@@ -23,7 +25,8 @@ abbrev pub Apart : ℕ → List ℕ → List ℕ → Type 0
 Apart n first second = (s t L : ℕ) → L < n → label first s ≡ L → label second t ≡ L → ⊥
 
 -- a place whose target has its label of the first table
-cross-first : (n : ℕ) (first second both : List ℕ) → n ≤ 1024 → ((t : ℕ) → Joined first second both t) → Apart n first second → (L i t : ℕ) → L < n → label both t ≡ label first t → label second t ≡ none
+cross-first : (n : ℕ) (first second both : List ℕ) → n ≤ 1024 → ((t : ℕ) → Joined first second both t) → Apart n first second → (L i t : ℕ) → L < n
+    → label both t ≡ label first t → label second t ≡ none
     → cross both L i t ≡ cross first L i t + cross second L i t
 cross-first n first second both small joined apart L i t h e f =
     let z : cross second L i t ≡ 0 = cross-off second L i t (λ y. omega arith) in

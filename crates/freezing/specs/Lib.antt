@@ -1,7 +1,7 @@
-pub mod Draft
+pub mod Freezable
 pub mod Joined
+pub mod Lone
 pub mod Counted
 pub mod Frozen
-pub mod Lone
 pub mod Whole
 pub mod Again

@@ -1,22 +1,26 @@
--- What the search of a freeze asks, and that work is clear again.
+-- Freeze of a draft: what the search asks, that work is clear again, and that all is frozen.
 use mathlib.Core.Path.{_≡_, refl, sym, ap, _∙_, subst}
 use mathlib.Core.Bool.{Bool, true, false}
 use mathlib.Core.List.{List, _++_}
 use Prim.Native.Nat.{ℕ, _+_, _*_, _≤_, _<_}
 use native.Mathlib.Omega.{arith}
-use lib.ListN.{length, drop, take, replicate, length-replicate, getD-replicate, take-append-drop}
+use lib.ListN.{length, length-set, set, drop, take, replicate, length-replicate, getD-replicate, take-append-drop}
 use lib.Seq.{ext-getD, getD-take, length-take-le}
-use Rattle.rules.specs.Calls.{storeOf}
-use Rattle.tallies.specs.Stores.{wells-of}
-use Rattle.paths.specs.Ground.{_!_}
+use Rattle.rules.specs.Tables.{storeOf}
+use Rattle.rules.specs.Lists.{_!_}
+use Rattle.rules.specs.Tables.{Store}
+use Rattle.rules.specs.Commands.{nextStore}
+use Rattle.rules.specs.declared.Command.the-variants.{Freeze}
 use Rattle.paths.specs.Classes.{drafts-closed}
-use Rattle.groups.specs.Marked as marked
-use Rattle.groups.specs.Marked.{Marked, Reached}
-use Rattle.freezing.specs.Draft.{Draft}
-use Rattle.freezing.specs.Lone.{Searching, Found, wiped, wiped-single}
+use Rattle.tallies.specs.Stores.{wells-of}
+use Rattle.recounting.specs.Fresh.{Taken}
+use Rattle.freezing.specs.Freezable.{Freezable}
+use Rattle.freezing.specs.Lone.{Findable, Found, wiped, wiped-single}
+use Rattle.freezing.specs.Counted.{leader-lt, leader-few, hold-counted}
+use Rattle.freezing.specs.Frozen.{frozen}
 
 -- a list whose first k entries are 0
-pub front-zeros : (k : ℕ) (w : List ℕ) → k ≤ length w → ((i : ℕ) → i < k → w ! i ≡ 0) → replicate k 0 ++ drop k w ≡ w
+front-zeros : (k : ℕ) (w : List ℕ) → k ≤ length w → ((i : ℕ) → i < k → w ! i ≡ 0) → replicate k 0 ++ drop k w ≡ w
 front-zeros k w h z = ap (λ (f : List ℕ). f ++ drop k w) (sym front) ∙ take-append-drop k w
   where
     size : length (take k w) ≡ k
@@ -27,26 +31,55 @@ front-zeros k w h z = ap (λ (f : List ℕ). f ++ drop k w) (sym front) ∙ take
         let m : i < k = subst (λ (x : ℕ). i < x) size l in
         getD-take k w i 0 m ∙ z i m ∙ sym (getD-replicate k i 0 0 m))
 
-module _ (n : ℕ) (states links leaders holds counts work : List ℕ) (p : ℕ) (d : Draft n states links leaders holds counts work p) where
-  search-ready : marked.Ready n states links 1 work
-  search-ready = record {
-    lent = record { most = d .ready .sized .base .most; states-n = d .ready .sized .base .states; links-n = d .ready .sized .base .links; work-n = let x = d .clear .size in omega arith };
-    closed = drafts-closed (storeOf n states links leaders holds counts .base) (d .ready .sized .base .most) (wells-of (storeOf n states links leaders holds counts) (d .ready));
-    zeros = λ i l. d .clear .zeros i (omega arith);
+module _ {s : Store} {work : List ℕ} {p : ℕ} (d : Freezable s work p) where
+  abbrev n : ℕ
+  n = s .base .n
+
+  wide : 6 * n ≤ length work
+  wide = let x = d .clear .size in omega arith
+
+  pub findable : Findable (s .base .n) (s .base .states) (s .base .links) work p
+  findable = record {
+    ready = record {
+      lent = record { most = d .ready .sized .base .most; states-n = d .ready .sized .base .states; links-n = d .ready .sized .base .links; work-n = wide };
+      closed = drafts-closed (s .base) (d .ready .sized .base .most) (wells-of s (d .ready));
+      zeros = λ i l. d .clear .zeros i (omega arith);
+    };
+    below = d .below;
+    is = d .is;
   }
 
-  pub searching : Searching n states links work p
-  searching = record { ready = search-ready; below = d .below; is = d .is }
-
-  module _ (work′ : List ℕ) (m : Marked n links (Reached n states links 1 p) work work′) where
-    pub wide : 6 * n ≤ length work′
-    wide = let x = m .size in let y = d .clear .size in omega arith
+  module _ {work′ : List ℕ} {alone : Bool} (f : Found (s .base .n) (s .base .states) (s .base .links) work p work′ alone) where
+    pub work-wide : 6 * s .base .n ≤ length work′
+    work-wide = let x = f .grouped .size in omega (arith, wide)
 
     all-wiped : replicate (6 * n) 0 ++ drop (6 * n) work′ ≡ work
-    all-wiped = ap (λ (x : List ℕ). replicate (6 * n) 0 ++ x) (m .later) ∙ front-zeros (6 * n) work (let x = d .clear .size in omega arith) (λ i l. d .clear .zeros i (omega arith))
+    all-wiped = ap (λ (x : List ℕ). replicate (6 * n) 0 ++ x) (f .grouped .later) ∙ front-zeros (6 * n) work wide (λ i l. d .clear .zeros i (omega arith))
 
-  pub clear-again : (work′ : List ℕ) (alone : Bool) → Found n states links work p work′ alone → wiped n work′ p alone ≡ work
-  clear-again work′ true f =
-      ap (λ (w : List ℕ). wiped n w p true) (f .single-is refl)
-      ∙ wiped-single n work p (d .below) (let x = d .clear .size in omega arith) (d .clear .zeros p (let h = d .below in omega arith)) (d .clear .zeros (2 * n + p) (let h = d .below in omega arith))
-  clear-again work′ false f = all-wiped work′ (f .marked)
+    single-wiped : alone ≡ true → wiped n work′ p true ≡ work
+    single-wiped e =
+        ap (λ (w : List ℕ). wiped n w p true) (f .single-is e) ∙
+        wiped-single n work p (d .below) (omega (arith, wide)) (d .clear .zeros p (omega (arith, d .below))) (d .clear .zeros (2 * n + p) (omega (arith, d .below)))
+
+    -- work is clear again
+    pub all-clear : {work″ : List ℕ} → work″ ≡ wiped (s .base .n) work′ p alone → work″ ≡ work
+    all-clear e = e ∙ go alone refl
+      where
+        go : (r : Bool) → alone ≡ r → wiped n work′ p r ≡ work
+        go true x = single-wiped x
+        go false x = all-wiped
+
+    -- ---- the whole freeze
+
+    module _ {states′ leaders′ counts′ : List ℕ} (t : Taken (s .base .n) (s .base .states) (s .base .links) (s .leaders) (s .counts) work′ (s .base .n) states′ leaders′ counts′) where
+      pub leader-below : leaders′ ! p < s .base .n
+      leader-below = leader-lt d (f .grouped) t
+
+      pub leader-room : counts′ ! (leaders′ ! p) < 1028097
+      leader-room = leader-few d (f .grouped) t
+
+      pub freezes : storeOf (s .base .n) states′ (s .base .links) leaders′ (set (s .base .holds) p 1) (set counts′ (leaders′ ! p) (counts′ ! (leaders′ ! p) + 1))
+          ≡ nextStore s (Freeze p)
+      freezes =
+          frozen d (f .grouped) (t .made) (length-set counts′ (leaders′ ! p) (counts′ ! (leaders′ ! p) + 1) ∙ t .counted .added .size ∙ d .ready .sized .counts)
+          (hold-counted d (f .grouped) t)

@@ -4,12 +4,12 @@ ghost use mathlib.Core.List.{[]};
 ghost use mathlib.Core.Bool.{true};
 ghost use Prim.Native.Nat.{_+_, _*_, _≤_, _<_};
 ghost use lib.ListN.{length};
-ghost use Rattle.rules.specs.Calls.{storeOf, Ready, Clear, Did, answered, effect};
+ghost use Rattle.rules.specs.Tables.{storeOf};
+ghost use Rattle.rules.specs.Calls.{Ready, Clear, Did, answered, effect};
 ghost use Rattle.rules.specs.Commands.{nextStore};
 ghost use Rattle.rules.specs.declared.Command.the-variants.{Freeze};
-ghost use Rattle.paths.specs.Ground.{_!_};
-ghost use Rattle.freezing.specs.Draft.{Draft};
-ghost use Rattle.freezing.specs.Lone.{Lone, Searching, Found, wiped};
+ghost use Rattle.freezing.specs.Freezable.{Freezable};
+ghost use Rattle.freezing.specs.Lone.{Lone, Findable, Found, wiped};
 use rules::Answer;
 use rules::Refusal;
 use rules::Store;
@@ -19,13 +19,13 @@ fn lone(n: usize, states: &[u8], links: &[u16], p: usize) -> bool
     requires { ⌜ (n ≤ 1024) × (length (now states) ≡ n) × (length (now links) ≡ 4 * n) × (p < n) ⌝ }
     ensures { λ r. ⌜ (r ≡ true → Lone n (now (states .entry)) (now (links .entry)) p (4 * p + 4)) ⌝ }
 {
-    let end = 4 * p + 4;
-    let mut i = 4 * p;
+    let end = Store::LINKS * p + Store::LINKS;
+    let mut i = Store::LINKS * p;
     while i < end {
         let t = links[i] as usize;
         if t < n {
             if t != p {
-                if states[t] == 1 {
+                if states[t] == Store::DRAFT {
                     return false;
                 }
             }
@@ -37,11 +37,11 @@ fn lone(n: usize, states: &[u8], links: &[u16], p: usize) -> bool
 
 // Finds the groups of the drafts that p reaches, p's alone without a search. Tells which.
 fn find(n: usize, states: &[u8], links: &[u16], work: &mut [u32], p: usize) -> bool
-    requires { ⌜ Searching n (now states) (now links) (now work) p ⌝ }
+    requires { ⌜ Findable n (now states) (now links) (now work) p ⌝ }
     ensures { λ r. ⌜ Found n (now (states .entry)) (now (links .entry)) (now (work .entry)) p (now (work .exit)) r ⌝ }
 {
     if lone(n, states, links, p) {
-        work[p] = 65535;
+        work[p] = paths::FINISHED_MARK;
         work[2 * n + p] = p as u32;
         return true;
     }
@@ -73,7 +73,7 @@ fn freeze_draft(
     work: &mut [u32],
     p: usize,
 )
-    requires { ⌜ Draft n (now states) (now links) (now leaders) (now holds) (now counts) (now work) p ⌝ }
+    requires { ⌜ Freezable (storeOf n (now states) (now links) (now leaders) (now holds) (now counts)) (now work) p ⌝ }
     ensures frozen { λ _. ⌜ storeOf n (now (states .exit)) (now (links .entry)) (now (leaders .exit)) (now (holds .exit)) (now (counts .exit))
         ≡ nextStore (storeOf n (now (states .entry)) (now (links .entry)) (now (leaders .entry)) (now (holds .entry)) (now (counts .entry))) (Freeze p) ⌝ }
     ensures clear { λ _. ⌜ now (work .exit) ≡ now (work .entry) ⌝ }
@@ -106,9 +106,9 @@ pub fn freeze(
     if n <= q {
         return Answer::Refused(Refusal::Number);
     }
-    if states[q] == 1 {
+    if states[q] == Store::DRAFT {
         freeze_draft(n, states, links, leaders, holds, counts, work, q);
         return Store::fresh();
     }
-    holding::acquire(n, states, links, leaders, holds, counts, p)
+    holding::acquire(n, states, leaders, holds, counts, p)
 }

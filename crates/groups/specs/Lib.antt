@@ -6,5 +6,5 @@ pub mod Explore
 pub mod Advance
 pub mod Finish
 pub mod Whole
-pub mod Marked
+pub mod Grouped
 pub mod Roots

@@ -4,8 +4,9 @@ use mathlib.Core.List.{List}
 use mathlib.Core.Logic.{_⊎_}
 use Prim.Native.Nat.{ℕ, pred, _+_, _*_, _≤_, _<_}
 use lib.ListN.{length, set}
-use Rattle.paths.specs.Ground.{ground, Closed, _!_}
-use Rattle.paths.specs.Search.{finished, Regions, Invariant, Calm, Visited, measure}
+use Rattle.rules.specs.Lists.{_!_}
+use Rattle.paths.specs.Ground.{ground, OneWay}
+use Rattle.paths.specs.Search.{finishedMark, Regions, Invariant, Calm, Visited, measure}
 use Rattle.groups.specs.Layout.{part, tail, regions, moved}
 use Rattle.groups.specs.declared.At.{At}
 
@@ -21,30 +22,36 @@ abbrev pub view : ℕ → List ℕ → At → Regions
 view n w a = moved (regions n w) (a .piece) (a .place)
 
 -- the search stands at a
-pub record Stands (n : ℕ) (states links : List ℕ) (class : ℕ) (old : List ℕ) (root : ℕ) (w : List ℕ) (a : At) : Type 0 where
+pub record Positioned (n : ℕ) (states links : List ℕ) (class : ℕ) (old : List ℕ) (root : ℕ) (w : List ℕ) (a : At) : Type 0 where
   pub inv : Invariant (ground n states links class) old root (view n w a) (a .size) (a .blocks) (a .stand)
   pub piece-lt : a .piece < n
   pub piece-is : 0 < a .size → part n (3 * n) w ! a .stand ≡ a .piece
   pub stored : a .size ≡ 0 → part n n w ! a .piece ≡ a .place
 
 -- a search is under way
-pub record Going (n : ℕ) (states links : List ℕ) (class : ℕ) (w : List ℕ) (a : At) : Type 0 where
+pub record UnderWay (n : ℕ) (states links : List ℕ) (class : ℕ) (w : List ℕ) (a : At) : Type 0 where
   pub lent : Lent n states links w
   pub live : 0 < a .size
   pub old : List ℕ
   pub root : ℕ
-  pub stands : Stands n states links class old root w a
+  pub stands : Positioned n states links class old root w a
+
+-- every place of the search's piece is explored; what leaves the class does not come back to it
+pub record Exhausted (n : ℕ) (states links : List ℕ) (class : ℕ) (w : List ℕ) (a : At) : Type 0 where
+  pub going : UnderWay n states links class w a
+  pub closed : OneWay (ground n states links class)
+  pub four : a .place ≡ 4
 
 -- a step keeps the invariant, and leaves less to do
-pub record Stepped (n : ℕ) (states links : List ℕ) (class : ℕ) (w : List ℕ) (a : At) (w′ : List ℕ) (a′ : At) : Type 0 where
-  pub stands : (old : List ℕ) (root : ℕ) → Stands n states links class old root w a → Stands n states links class old root w′ a′
+pub record Progressed (n : ℕ) (states links : List ℕ) (class : ℕ) (w : List ℕ) (a : At) (w′ : List ℕ) (a′ : At) : Type 0 where
+  pub stands : (old : List ℕ) (root : ℕ) → Positioned n states links class old root w a → Positioned n states links class old root w′ a′
   pub less : measure n (view n w′ a′) (a′ .size) (a′ .stand) < measure n (view n w a) (a .size) (a .stand)
   pub tail-same : tail n w′ ≡ tail n w
 
 -- some places are explored, or none
 pub record Came (n : ℕ) (states links : List ℕ) (class : ℕ) (w : List ℕ) (a : At) (w′ : List ℕ) (a′ : At) : Type 0 where
   pub len : length w′ ≡ length w
-  pub stands : (old : List ℕ) (root : ℕ) → Stands n states links class old root w a → Stands n states links class old root w′ a′
+  pub stands : (old : List ℕ) (root : ℕ) → Positioned n states links class old root w a → Positioned n states links class old root w′ a′
   pub most : measure n (view n w′ a′) (a′ .size) (a′ .stand) ≤ measure n (view n w a) (a .size) (a .stand)
   pub tail-same : tail n w′ ≡ tail n w
 
@@ -54,9 +61,18 @@ pub record Advanced (n : ℕ) (states links : List ℕ) (class : ℕ) (w : List 
   pub done : (a′ .place ≡ 4) ⊎ (measure n (view n w′ a′) (a′ .size) (a′ .stand) < measure n (view n w a) (a .size) (a .stand))
   pub live : 0 < a′ .size
 
+-- there is room on the stack for the piece
+pub record Stackable (n : ℕ) (w : List ℕ) (size blocks stand piece : ℕ) : Type 0 where
+  pub most : n ≤ 1024
+  pub work-n : 6 * n ≤ length w
+  pub size-lt : size < n
+  pub blocks-lt : blocks < n
+  pub stand-lt : stand < n
+  pub piece-lt : piece < n
+
 -- a piece is put on the stack
-abbrev pub pushed : ℕ → List ℕ → ℕ → ℕ → ℕ → ℕ → List ℕ
-pushed n w size blocks stand piece = set (set (set (set w piece (size + 1)) (3 * n + size) piece) (4 * n + blocks) size) (5 * n + size) stand
+abbrev pub stacked : ℕ → List ℕ → ℕ → ℕ → ℕ → ℕ → List ℕ
+stacked n w size blocks stand piece = set (set (set (set w piece (size + 1)) (3 * n + size) piece) (4 * n + blocks) size) (5 * n + size) stand
 
 -- there is a block, and the first starts at or below the position
 pub record Blocks (n : ℕ) (w : List ℕ) (blocks position : ℕ) : Type 0 where
@@ -83,7 +99,8 @@ pub record Pieces (n : ℕ) (w : List ℕ) (stand size : ℕ) : Type 0 where
 
 -- the pieces on the stack from `stand` up are finished, with leader low
 pub record ClosedOff (n : ℕ) (w : List ℕ) (stand size low : ℕ) (w′ : List ℕ) : Type 0 where
-  pub hit : (q : ℕ) → stand ≤ q → q < size → (part n 0 w′ ! (part n (3 * n) w ! q) ≡ finished) × (part n (2 * n) w′ ! (part n (3 * n) w ! q) ≡ low)
+  pub hit : (q : ℕ) → stand ≤ q → q < size
+      → (part n 0 w′ ! (part n (3 * n) w ! q) ≡ finishedMark) × (part n (2 * n) w′ ! (part n (3 * n) w ! q) ≡ low)
   pub miss : (u : ℕ) → u < n → ((q : ℕ) → stand ≤ q → q < size → part n (3 * n) w ! q ≡ u → ⊥)
       → (part n 0 w′ ! u ≡ part n 0 w ! u) × (part n (2 * n) w′ ! u ≡ part n (2 * n) w ! u)
   pub next-same : part n n w′ ≡ part n n w
@@ -91,6 +108,13 @@ pub record ClosedOff (n : ℕ) (w : List ℕ) (stand size low : ℕ) (w′ : Lis
   pub starts-same : part n (4 * n) w′ ≡ part n (4 * n) w
   pub parents-same : part n (5 * n) w′ ≡ part n (5 * n) w
   pub tail-same : tail n w′ ≡ tail n w
+
+-- a position of the stack with a piece
+pub record Resumable (n : ℕ) (w : List ℕ) (stand : ℕ) : Type 0 where
+  pub most : n ≤ 1024
+  pub work-n : 6 * n ≤ length w
+  pub stand-lt : stand < n
+  pub piece-lt : w ! (3 * n + stand) < n
 
 -- the search goes on at a position
 pub record Resumed (n : ℕ) (w : List ℕ) (size blocks stand : ℕ) (a : At) : Type 0 where
@@ -103,7 +127,7 @@ pub record Resumed (n : ℕ) (w : List ℕ) (size blocks stand : ℕ) (a : At) :
 -- a search may begin at root
 pub record Started (n : ℕ) (states links : List ℕ) (class : ℕ) (w : List ℕ) (root : ℕ) : Type 0 where
   pub lent : Lent n states links w
-  pub closed : Closed (ground n states links class)
+  pub closed : OneWay (ground n states links class)
   pub calm : Calm (ground n states links class) (part n 0 w) (part n n w) (part n (2 * n) w)
   pub root-lt : root < n
   pub root-in : states ! root ≡ class

@@ -2,18 +2,19 @@
 use mathlib.Core.Path.{_≡_, refl, sym, _∙_, ap, subst}
 use mathlib.Core.List.{List}
 use mathlib.Core.Logic.{inl, ⊎-elim}
-use Prim.Native.Nat.{ℕ, _*_, _≤_, _<_}
+use Prim.Native.Nat.{ℕ, _<_}
 use native.Mathlib.Omega.{arith}
 use lib.ListN.{length, length-set}
 use Rattle.rules.specs.Reach.{here}
-use Rattle.paths.specs.Ground.{Ground, ground, _!_}
-use Rattle.paths.specs.Search.{finished, Regions, Invariant}
+use Rattle.rules.specs.Lists.{_!_}
+use Rattle.paths.specs.Ground.{Ground, ground}
+use Rattle.paths.specs.Search.{finishedMark, Regions, Invariant}
 use Rattle.paths.specs.Stays.{kept-in}
 use Rattle.paths.specs.Moves.Push as move
 use Rattle.paths.specs.Moves.Whole.{begins, finishes}
-use Rattle.groups.specs.Layout.{part, tail, regions, part-get, sizes}
+use Rattle.groups.specs.Layout.{part, tail, regions, marks-get, sizes}
 use Rattle.groups.specs.Stores.{moved-same, push-view, push-tail}
-use Rattle.groups.specs.Steps.{Lent, Stands, Going, Stepped, pushed, Started, Searched}
+use Rattle.groups.specs.Steps.{Lent, Positioned, UnderWay, Progressed, stacked, Stackable, Started, Searched}
 use Rattle.groups.specs.declared.At.{At}
 
 -- the search at its root
@@ -25,15 +26,15 @@ pub record Searching (n : ℕ) (ss ls : List ℕ) (k : ℕ) (w₀ : List ℕ) (r
   pub lent : Lent n ss ls w
   pub len : length w ≡ length w₀
   pub old : List ℕ
-  pub began : Stands n ss ls k old root w₀ (first root)
-  pub stands : (old : List ℕ) → Stands n ss ls k old root w₀ (first root) → Stands n ss ls k old root w a
+  pub began : Positioned n ss ls k old root w₀ (first root)
+  pub stands : (old : List ℕ) → Positioned n ss ls k old root w₀ (first root) → Positioned n ss ls k old root w a
   pub tail-same : tail n w ≡ tail n w₀
 
-pub going : {n : ℕ} {ss ls : List ℕ} {k : ℕ} {w₀ : List ℕ} {root : ℕ} {w : List ℕ} {a : At} → Searching n ss ls k w₀ root w a → 0 < a .size → Going n ss ls k w a
+pub going : {n : ℕ} {ss ls : List ℕ} {k : ℕ} {w₀ : List ℕ} {root : ℕ} {w : List ℕ} {a : At} → Searching n ss ls k w₀ root w a → 0 < a .size → UnderWay n ss ls k w a
 going {root = root} Q pos = record { lent = Q .lent; live = pos; old = Q .old; root = root; stands = Q .stands (Q .old) (Q .began) }
 
 pub searching-step : {n : ℕ} {ss ls : List ℕ} {k : ℕ} {w₀ : List ℕ} {root : ℕ} {w : List ℕ} {a : At} {w′ : List ℕ} {a′ : At} → Searching n ss ls k w₀ root w a
-    → length w′ ≡ length w → Stepped n ss ls k w a w′ a′ → Searching n ss ls k w₀ root w′ a′
+    → length w′ ≡ length w → Progressed n ss ls k w a w′ a′ → Searching n ss ls k w₀ root w′ a′
 searching-step {root = root} Q len T = record {
   lent = record { most = Q .lent .most; states-n = Q .lent .states-n; links-n = Q .lent .links-n; work-n = omega (arith, len, Q .lent .work-n) };
   len = len ∙ Q .len;
@@ -48,25 +49,35 @@ module _ {n : ℕ} {ss ls : List ℕ} {k : ℕ} {w : List ℕ} {root : ℕ} (S :
   g = ground n ss ls k
 
   root-get : part n 0 w ! root ≡ w ! root
-  root-get = part-get n 0 w root (S .root-lt) ∙ ap (λ (i : ℕ). w ! i) (omega arith)
+  root-get = marks-get n w root (S .root-lt)
 
-  pub room : (n ≤ 1024) × (6 * n ≤ length w) × (0 < n) × (0 < n) × (0 < n) × (root < n)
-  room = (S .lent .most, S .lent .work-n, omega (arith, S .root-lt), omega (arith, S .root-lt), omega (arith, S .root-lt), S .root-lt)
+  pub root-stackable : Stackable n w 0 0 0 root
+  root-stackable = record {
+    most = S .lent .most;
+    work-n = S .lent .work-n;
+    size-lt = omega (arith, S .root-lt);
+    blocks-lt = omega (arith, S .root-lt);
+    stand-lt = omega (arith, S .root-lt);
+    piece-lt = S .root-lt;
+  }
 
-  module _ (unseen : w ! root ≡ 0) {w₀ : List ℕ} (w₀-is : w₀ ≡ pushed n w 0 0 0 root) where
+  module _ {mark : ℕ} (mark-is : mark ≡ w ! root) (zero-mark : mark ≡ 0) {w₀ : List ℕ} (w₀-is : w₀ ≡ stacked n w 0 0 0 root) where
+    unseen : part n 0 w ! root ≡ 0
+    unseen = root-get ∙ sym mark-is ∙ zero-mark
+
     R : regions n w₀ ≡ move.pushed (regions n w) 0 0 0 root
     R = ap (regions n) w₀-is ∙ push-view n w 0 0 0 root (omega (arith, S .root-lt)) (omega (arith, S .root-lt)) (S .root-lt)
 
     next-zero : 0 ≡ part n n w₀ ! root
-    next-zero = sym (ap (λ (s : Regions). s .next ! root) R ∙ S .calm .fresh root (S .root-lt) (root-get ∙ unseen))
+    next-zero = sym (ap (λ (s : Regions). s .next ! root) R ∙ S .calm .fresh root (S .root-lt) unseen)
 
     begun : Invariant g (part n 0 w) root (regions n w₀) 1 1 0
     begun =
         subst (λ (s : Regions). Invariant g (part n 0 w) root s 1 1 0) (sym R)
-        (move.push g (part n 0 w) root (regions n w) 0 0 0 (begins g (regions n w) root (sizes n w (S .lent .work-n)) (S .calm)) (λ h. absurd (omega arith)) (λ h. absurd (omega arith)) (λ e. refl)
-        root (S .root-lt) (S .root-in) (root-get ∙ unseen) (λ h. absurd (omega arith)) (λ e. refl) (omega arith))
+        (move.push (begins (sizes n w (S .lent .work-n)) (S .calm)) (λ h. absurd (omega arith)) (λ h. absurd (omega arith)) root (S .root-lt) (S .root-in) unseen
+        (λ h. absurd (omega arith)) (λ e. refl) (omega arith))
 
-    begin : Stands n ss ls k (part n 0 w) root w₀ (first root)
+    begin : Positioned n ss ls k (part n 0 w) root w₀ (first root)
     begin = record {
       inv = subst (λ (s : Regions). Invariant g (part n 0 w) root s 1 1 0) (sym (moved-same (regions n w₀) root 0 next-zero)) begun;
       piece-lt = S .root-lt;
@@ -92,21 +103,22 @@ module _ {n : ℕ} {ss ls : List ℕ} {k : ℕ} {w : List ℕ} {root : ℕ} (S :
         let T = Q .stands (part n 0 w) begin in
         let I : Invariant g (part n 0 w) root (regions n w′) 0 (a .blocks) (a .stand) =
         subst (λ (m : ℕ). Invariant g (part n 0 w) root (regions n w′) m (a .blocks) (a .stand)) end
-        (subst (λ (s : Regions). Invariant g (part n 0 w) root s (a .size) (a .blocks) (a .stand)) (moved-same (regions n w′) (a .piece) (a .place) (sym (T .stored end))) (T .inv)) in
+        (subst (λ (s : Regions). Invariant g (part n 0 w) root s (a .size) (a .blocks) (a .stand))
+        (moved-same (regions n w′) (a .piece) (a .place) (sym (T .stored end))) (T .inv)) in
         record {
-          visited = finishes g (S .closed) (part n 0 w) (regions n w′) root (a .blocks) (a .stand) (S .root-lt) I;
+          visited = finishes (S .closed) (S .root-lt) I;
           tail-same = Q .tail-same ∙ ap (tail n) w₀-is ∙ push-tail n w 0 0 0 root (omega (arith, S .root-lt)) (omega (arith, S .root-lt)) (S .root-lt);
         }
 
   -- a root that is finished already
-  pub already : (w ! root ≡ 0 → ⊥) → Searched n ss ls k w root w
-  already nz =
-      let e : part n 0 w ! root ≡ finished = ⊎-elim (λ z. absurd (nz (sym root-get ∙ z))) (λ e. e) (S .calm .either root (S .root-lt)) in
+  pub already : {mark : ℕ} → mark ≡ w ! root → (mark ≡ 0 → ⊥) → Searched n ss ls k w root w
+  already mark-is nz =
+      let e : part n 0 w ! root ≡ finishedMark = ⊎-elim (λ z. absurd (nz (mark-is ∙ sym root-get ∙ z))) (λ e. e) (S .calm .either root (S .root-lt)) in
       record {
         visited = record {
           calm = S .calm;
           kept = λ x lt h. h;
-          reached = λ x lt cx r. kept-in g (part n 0 w) (S .closed) (S .calm .closed) x cx r here (S .root-lt) (S .root-in) e .1;
+          reached = λ x lt cx r. kept-in (part n 0 w) (S .closed) (S .calm .closed) cx r here (S .root-lt) (S .root-in) e .1;
           «only» = λ x lt h. inl h;
         };
         tail-same = refl;

@@ -1,14 +1,16 @@
 // The search for groups over lent tables, in one work slice of six regions of n entries.
-// By piece: marks (0 unseen, q + 1 on the stack at position q, 65535 finished), next places, leaders.
+// By piece: marks (0 unseen, q + 1 on the stack at position q, and the mark of a finished piece), next places, leaders.
 // By position: the stack, the starts of its blocks, the parent's position.
 ghost use mathlib.Core.Path.{_≡_};
 ghost use Prim.Native.Nat.{_+_, _*_, _≤_, _<_};
 ghost use lib.ListN.{length, set};
-ghost use Rattle.paths.specs.Ground.{_!_, Closed, ground};
-ghost use Rattle.paths.specs.Moves.Pop.{Lowest};
+ghost use Rattle.rules.specs.Lists.{_!_};
+ghost use Rattle.paths.specs.Ground.{OneWay, ground};
+ghost use Rattle.paths.specs.Moves.Pop.{LowestOnStack};
 ghost use Rattle.groups.specs.Layout.{part};
-ghost use Rattle.groups.specs.Steps.{pushed, Going, Stepped, Advanced, Cut, Blocks, ClosedOff, Pieces, Resumed, Started, Searched};
-ghost use Rattle.groups.specs.Marked.{Ready, Marked, Reached, Of};
+ghost use Rattle.groups.specs.Steps.{UnderWay, Exhausted, Progressed, Advanced, Stackable, stacked, Blocks, Cut, Pieces, ClosedOff, Resumable, Resumed, Started, Searched};
+ghost use Rattle.groups.specs.Grouped.{Searchable, Grouped, ReachedFrom, Of};
+use rules::Store;
 
 // Where the search stands.
 pub struct At {
@@ -37,8 +39,8 @@ fn put(work: &mut [u32], i: usize, x: usize)
 
 // Puts a piece on the stack, as a block of its own, with its parent at position `stand`.
 fn push(n: usize, work: &mut [u32], size: usize, blocks: usize, stand: usize, piece: usize)
-    requires { ⌜ (n ≤ 1024) × (6 * n ≤ length (now work)) × (size < n) × (blocks < n) × (stand < n) × (piece < n) ⌝ }
-    ensures { λ _. ⌜ now (work .exit) ≡ pushed n (now (work .entry)) size blocks stand piece ⌝ }
+    requires { ⌜ Stackable n (now work) size blocks stand piece ⌝ }
+    ensures { λ _. ⌜ now (work .exit) ≡ stacked n (now (work .entry)) size blocks stand piece ⌝ }
 {
     put(work, piece, size + 1);
     put(work, 3 * n + size, piece);
@@ -60,7 +62,7 @@ fn merge(n: usize, work: &[u32], blocks: usize, position: usize) -> usize
 
 // Explores the places of the piece at which the search stands, until one is pushed or none is left.
 fn explore(n: usize, states: &[u8], links: &[u16], class: u8, work: &mut [u32], a: At) -> At
-    requires { ⌜ Going n (now states) (now links) class (now work) a ⌝ }
+    requires { ⌜ UnderWay n (now states) (now links) class (now work) a ⌝ }
     ensures { λ r. ⌜ Advanced n (now (states .entry)) (now (links .entry)) class (now (work .entry)) a (now (work .exit)) r ⌝ }
 {
     let size = a.size;
@@ -80,7 +82,7 @@ fn explore(n: usize, states: &[u8], links: &[u16], class: u8, work: &mut [u32], 
         }
     }
     while place < 4 {
-        let target = links[4 * piece + place] as usize;
+        let target = links[Store::LINKS * piece + place] as usize;
         place += 1;
         if target < n {
             if states[target] == class {
@@ -96,7 +98,7 @@ fn explore(n: usize, states: &[u8], links: &[u16], class: u8, work: &mut [u32], 
                         place: 0,
                     };
                 }
-                if mark != 65535 {
+                if mark != paths::FINISHED_MARK as usize {
                     blocks = merge(n, work, blocks, mark - 1);
                 }
             }
@@ -114,7 +116,7 @@ fn explore(n: usize, states: &[u8], links: &[u16], class: u8, work: &mut [u32], 
 // The lowest piece on the stack from position `stand` up.
 fn lowest(n: usize, work: &[u32], stand: usize, size: usize) -> usize
     requires { ⌜ Pieces n (now work) stand size ⌝ }
-    ensures { λ r. ⌜ Lowest (part n (3 * n) (now (work .entry))) stand size r ⌝ }
+    ensures { λ r. ⌜ LowestOnStack (part n (3 * n) (now (work .entry))) stand size r ⌝ }
 {
     let mut low = get(work, 3 * n + stand);
     let mut q = stand + 1;
@@ -136,7 +138,7 @@ fn close(n: usize, work: &mut [u32], stand: usize, size: usize, low: usize)
     let mut q = stand;
     while q < size {
         let piece = get(work, 3 * n + q);
-        put(work, piece, 65535);
+        put(work, piece, paths::FINISHED_MARK as usize);
         put(work, 2 * n + piece, low);
         q += 1;
     }
@@ -144,7 +146,7 @@ fn close(n: usize, work: &mut [u32], stand: usize, size: usize, low: usize)
 
 // Goes on at a position of the stack, with the piece there and its next place.
 fn resume(n: usize, work: &[u32], size: usize, blocks: usize, stand: usize) -> At
-    requires { ⌜ (n ≤ 1024) × (6 * n ≤ length (now work)) × (stand < n) × (now work ! (3 * n + stand) < n) ⌝ }
+    requires { ⌜ Resumable n (now work) stand ⌝ }
     ensures { λ r. ⌜ Resumed n (now (work .entry)) size blocks stand r ⌝ }
 {
     let piece = get(work, 3 * n + stand);
@@ -160,8 +162,8 @@ fn resume(n: usize, work: &[u32], size: usize, blocks: usize, stand: usize) -> A
 
 // The piece at which the search stands is explored: its block is finished if it starts there, and the search goes back to its parent.
 fn finish(n: usize, states: &[u8], links: &[u16], class: u8, work: &mut [u32], a: At) -> At
-    requires { ⌜ Going n (now states) (now links) class (now work) a × Closed (ground n (now states) (now links) class) × (a .place ≡ 4) ⌝ }
-    ensures { λ r. ⌜ Stepped n (now (states .entry)) (now (links .entry)) class (now (work .entry)) a (now (work .exit)) r ⌝ }
+    requires { ⌜ Exhausted n (now states) (now links) class (now work) a ⌝ }
+    ensures { λ r. ⌜ Progressed n (now (states .entry)) (now (links .entry)) class (now (work .entry)) a (now (work .exit)) r ⌝ }
 {
     let size = a.size;
     let blocks = a.blocks;
@@ -172,7 +174,7 @@ fn finish(n: usize, states: &[u8], links: &[u16], class: u8, work: &mut [u32], a
     let parent = get(work, 5 * n + stand);
     if start == stand {
         if stand + 1 == size {
-            put(work, piece, 65535);
+            put(work, piece, paths::FINISHED_MARK as usize);
             put(work, 2 * n + piece, piece);
             return resume(n, work, stand, blocks - 1, parent);
         }
@@ -185,8 +187,8 @@ fn finish(n: usize, states: &[u8], links: &[u16], class: u8, work: &mut [u32], a
 
 // Explores places until a piece is pushed, or the piece at which the search stands is explored, and goes back from it.
 fn step(n: usize, states: &[u8], links: &[u16], class: u8, work: &mut [u32], a: At) -> At
-    requires { ⌜ Going n (now states) (now links) class (now work) a × Closed (ground n (now states) (now links) class) ⌝ }
-    ensures { λ r. ⌜ Stepped n (now (states .entry)) (now (links .entry)) class (now (work .entry)) a (now (work .exit)) r ⌝ }
+    requires { ⌜ UnderWay n (now states) (now links) class (now work) a × OneWay (ground n (now states) (now links) class) ⌝ }
+    ensures { λ r. ⌜ Progressed n (now (states .entry)) (now (links .entry)) class (now (work .entry)) a (now (work .exit)) r ⌝ }
 {
     let b = explore(n, states, links, class, work, a);
     let place = b.place;
@@ -218,16 +220,16 @@ fn search(n: usize, states: &[u8], links: &[u16], class: u8, work: &mut [u32], r
 
 // Finishes every piece of the class that root reaches, and no other, each with its leader.
 pub fn visit(n: usize, states: &[u8], links: &[u16], class: u8, work: &mut [u32], root: usize)
-    requires { ⌜ Ready n (now states) (now links) class (now work) × (root < n) × (now states ! root ≡ class) ⌝ }
-    ensures { λ _. ⌜ Marked n (now (links .entry)) (Reached n (now (states .entry)) (now (links .entry)) class root) (now (work .entry)) (now (work .exit)) ⌝ }
+    requires { ⌜ Searchable n (now states) (now links) class (now work) × (root < n) × (now states ! root ≡ class) ⌝ }
+    ensures { λ _. ⌜ Grouped n (now (links .entry)) (ReachedFrom n (now (states .entry)) (now (links .entry)) class root) (now (work .entry)) (now (work .exit)) ⌝ }
 {
     search(n, states, links, class, work, root);
 }
 
 // Finishes every piece of the class, and no other, each with its leader.
 pub fn visit_all(n: usize, states: &[u8], links: &[u16], class: u8, work: &mut [u32])
-    requires { ⌜ Ready n (now states) (now links) class (now work) ⌝ }
-    ensures { λ _. ⌜ Marked n (now (links .entry)) (Of (now (states .entry)) class) (now (work .entry)) (now (work .exit)) ⌝ }
+    requires { ⌜ Searchable n (now states) (now links) class (now work) ⌝ }
+    ensures { λ _. ⌜ Grouped n (now (links .entry)) (Of (now (states .entry)) class) (now (work .entry)) (now (work .exit)) ⌝ }
 {
     let mut next = 0;
     while next < n {

@@ -1,12 +1,12 @@
 // Acquire and release on sound tables: one hold more or less.
-ghost use Prim.Native.Nat.{_≤_, _<_};
-ghost use mathlib.Core.Path.{_≡_};
-ghost use mathlib.Core.List.{[]};
+ghost use Prim.Native.Nat.{_≤_};
 ghost use lib.ListN.{length};
-ghost use Rattle.rules.specs.Calls.{answered, effect, storeOf, Ready, Did};
-ghost use Rattle.rules.specs.declared.Command.the-variants.{Acquire, Release};
-ghost use Rattle.tallies.specs.Tally.{_!_};
-ghost use Rattle.editing.specs.Verdicts.{Accepted};
+ghost use Rattle.rules.specs.Tables.{storeOf};
+ghost use Rattle.rules.specs.Calls.{answered, effect, Ready, Did};
+ghost use Rattle.rules.specs.declared.Command.the-variants.{Release};
+ghost use Rattle.editing.specs.Verdicts.{Worked};
+ghost use Rattle.editing.specs.Holds.{Releasing};
+ghost use Rattle.holding.specs.Acquired.{Acquiring, Acquired};
 use rules::Answer;
 use rules::Refusal;
 use rules::Store;
@@ -15,25 +15,22 @@ use rules::Store;
 pub fn acquire(
     n: usize,
     states: &[u8],
-    links: &[u16],
     leaders: &[u16],
     holds: &mut [u16],
     counts: &mut [u32],
     p: u16,
 ) -> Answer
-    requires { ⌜ Ready (storeOf n (now states) (now links) (now leaders) (now holds) (now counts)) ⌝ }
-    ensures { λ r. ⌜ Did (Acquire p)
-        (storeOf n (now (states .entry)) (now (links .entry)) (now (leaders .entry)) (now (holds .entry)) (now (counts .entry))) []
-        (effect (answered r) (storeOf n (now (states .entry)) (now (links .entry)) (now (leaders .entry)) (now (holds .exit)) (now (counts .exit))) []) ⌝ }
+    requires { ⌜ Acquiring n (now states) (now leaders) (now holds) (now counts) ⌝ }
+    ensures { λ r. ⌜ Acquired n (now (states .entry)) (now (leaders .entry)) (now (holds .entry)) (now (counts .entry)) p r (now (holds .exit)) (now (counts .exit)) ⌝ }
 {
     let at = p as usize;
     if n <= at {
         return Answer::Refused(Refusal::Number);
     }
-    if states[at] == 0 {
+    if states[at] == Store::FREE {
         return Answer::Refused(Refusal::Free);
     }
-    if states[at] == 1 {
+    if states[at] == Store::DRAFT {
         return Answer::Refused(Refusal::State);
     }
     if holds[at] >= Store::HOLDS {
@@ -56,9 +53,8 @@ fn let_hold_go(
     list: &mut [u16],
     p: usize,
 ) -> usize
-    requires { ⌜ Ready (storeOf n (now states) (now links) (now leaders) (now holds) (now counts)) × (n ≤ length (now list)) × (p < n)
-        × (now states ! p ≡ 0 → ⊥) × (now states ! p ≡ 1 → ⊥) × (now holds ! p ≡ 0 → ⊥) ⌝ }
-    ensures { λ r. ⌜ Accepted (Release p)
+    requires { ⌜ Releasing (storeOf n (now states) (now links) (now leaders) (now holds) (now counts)) (now list) p ⌝ }
+    ensures { λ r. ⌜ Worked (Release p)
         (storeOf n (now (states .entry)) (now (links .entry)) (now (leaders .entry)) (now (holds .entry)) (now (counts .entry))) (now (list .entry))
         (storeOf n (now (states .exit)) (now (links .exit)) (now (leaders .exit)) (now (holds .exit)) (now (counts .exit))) (now (list .exit)) r ⌝ }
 {
@@ -89,10 +85,10 @@ pub fn release(
     if n <= at {
         return Answer::Refused(Refusal::Number);
     }
-    if states[at] == 0 {
+    if states[at] == Store::FREE {
         return Answer::Refused(Refusal::Free);
     }
-    if states[at] == 1 {
+    if states[at] == Store::DRAFT {
         return Answer::Refused(Refusal::State);
     }
     if holds[at] == 0 {

@@ -1,18 +1,17 @@
--- What the tests, tables and lists of `Quant` say.
+-- What the tests, sums, tables and lists over the numbers below a bound say.
 use mathlib.Core.Path.{_≡_, refl, sym, ap, ap₂, _∙_, subst}
 use mathlib.Core.Logic.{_⊎_, inl, inr, ⊎-elim, _↔_, _≢_}
 use mathlib.Core.Bool.{Bool, true, false, not}
 use mathlib.Core.List.{List, [], _∷_}
-use Prim.Native.Nat.{ℕ, zero, suc, _+_, _≤_, _<_, zero-le, suc-le-suc}
+use Prim.Native.Nat.{ℕ, zero, suc, _+_, _≤_, _<_, zero-le}
 use native.Mathlib.Nat.{le-of-suc-le-suc, not-suc-le-zero, add-zero, add-suc, suc-add, zero-add, le-refl}
 use native.Mathlib.Decide.{ℕ-discrete}
 use native.Mathlib.Omega.{arith}
 use native.Mathlib.Numerals.{add-one}
-use lib.Dec.{T, T-not, not-T}
+use lib.Dec.{T, T-not}
 use lib.ListN.{length, getD}
-use Rattle.rules.specs.Tests.{_or_, _&_, pick, onlyIf}
+use Rattle.rules.specs.Tests.{_or_, pick}
 use Rattle.laws.specs.Tests.{or-left, or-right, or-cases, and-both, and-left, and-right}
-use Rattle.rules.specs.Limits.{none}
 use Rattle.rules.specs.Lists.{Among, first, later, Ascending, nil, one, more}
 use Rattle.rules.specs.Below.{every, any, sum, tableFrom, table, lowestFrom, lowest, listFrom, list}
 
@@ -68,35 +67,9 @@ unfolding any
     go ih (inl l) = or-left (any f k) (f k) (ih l)
     go ih (inr e) = or-right (any f k) (f k) (subst (λ (x : ℕ). T (f x)) e t)
 
--- one step more, in the form that a loop leaves
-pub every-next : (f : ℕ → Bool) (k : ℕ) → every f (k + 1) ≡ (every f k & f k)
-unfolding every
-every-next f k = rw add-one
-
-pub some-next : (f : ℕ → Bool) (k : ℕ) → any f (k + 1) ≡ (any f k or f k)
-unfolding any
-some-next f k = rw add-one
-
 pub sum-next : (f : ℕ → ℕ) (k : ℕ) → sum f (k + 1) ≡ sum f k + f k
 unfolding sum
 sum-next f k = rw add-one
-
--- a scan's step: found, or not found here
-pub some-hit : (f : ℕ → Bool) (k : ℕ) (a : Bool) → a ≡ true → T (f k) → a ≡ any f (k + 1)
-some-hit f k a e t = e ∙ sym (some-next f k ∙ go (any f k) (f k) t)
-  where
-    go : (x y : Bool) → T y → (x or y) ≡ true
-    go true y u = refl
-    go false true u = refl
-    go false false u = absurd u
-
-pub some-miss : (f : ℕ → Bool) (k : ℕ) (a a′ : Bool) → a′ ≡ a → a ≡ any f k → T (not (f k)) → a′ ≡ any f (k + 1)
-some-miss f k a a′ e i t = e ∙ i ∙ sym (some-next f k ∙ go (any f k) (f k) t)
-  where
-    go : (x y : Bool) → T (not y) → (x or y) ≡ x
-    go true y u = refl
-    go false true u = absurd u
-    go false false u = refl
 
 -- ---- tables
 
@@ -126,12 +99,14 @@ pub record Lowest (f : ℕ → Bool) (k l : ℕ) : Type 0 where
   pub is : T (f l)
   pub least : (q : ℕ) → T (f q) → l ≤ q
 
-lowestFrom-is : (p : ℕ) (f : ℕ → Bool) (k q : ℕ) → p ≤ q → q < p + k → T (f q) → (p ≤ lowestFrom p f k) × (lowestFrom p f k < p + k) × T (f (lowestFrom p f k)) × ((r : ℕ) → p ≤ r → T (f r) → lowestFrom p f k ≤ r)
+lowestFrom-is : (p : ℕ) (f : ℕ → Bool) (k q : ℕ) → p ≤ q → q < p + k → T (f q)
+    → (p ≤ lowestFrom p f k) × (lowestFrom p f k < p + k) × T (f (lowestFrom p f k)) × ((r : ℕ) → p ≤ r → T (f r) → lowestFrom p f k ≤ r)
 unfolding lowestFrom
 lowestFrom-is p f zero q a h t = absurd (omega arith)
 lowestFrom-is p f (suc k) q a h t = go (λ x. lowestFrom-is (suc p) f k q x (omega arith) t) (T-dec (f p))
   where
-    go : (suc p ≤ q → (suc p ≤ lowestFrom (suc p) f k) × (lowestFrom (suc p) f k < suc p + k) × T (f (lowestFrom (suc p) f k)) × ((r : ℕ) → suc p ≤ r → T (f r) → lowestFrom (suc p) f k ≤ r))
+    go : (suc p ≤ q → (suc p ≤ lowestFrom (suc p) f k) × (lowestFrom (suc p) f k < suc p + k) × T (f (lowestFrom (suc p) f k))
+        × ((r : ℕ) → suc p ≤ r → T (f r) → lowestFrom (suc p) f k ≤ r))
         → T (f p) ⊎ T (not (f p))
         → (p ≤ lowestFrom p f (suc k)) × (lowestFrom p f (suc k) < p + suc k) × T (f (lowestFrom p f (suc k))) × ((r : ℕ) → p ≤ r → T (f r) → lowestFrom p f (suc k) ≤ r)
     go ih (inl u) =
@@ -205,3 +180,24 @@ module _ (f : ℕ → Bool) where
   pub ascending-list : (k : ℕ) → Ascending (list f k)
   unfolding list
   ascending-list k = ascending-listFrom 0 k
+
+-- ---- sums
+
+pub sum-cong : (f g : ℕ → ℕ) (k : ℕ) → ((p : ℕ) → p < k → f p ≡ g p) → sum f k ≡ sum g k
+unfolding sum
+sum-cong f g zero h = refl
+sum-cong f g (suc k) h = ap₂ (λ (x y : ℕ). x + y) (sum-cong f g k (λ p l. h p (omega arith))) (h k (le-refl (suc k)))
+
+-- two sums that differ in one place
+pub sum-change : (f g : ℕ → ℕ) (k q : ℕ) → q < k → ((p : ℕ) → p < k → p ≢ q → f p ≡ g p) → sum f k + g q ≡ sum g k + f q
+unfolding sum
+sum-change f g zero q l h = absurd (not-suc-le-zero l)
+sum-change f g (suc k) q l h = go (λ m. sum-change f g k q m (λ p x d. h p (omega arith) d)) (ℕ-discrete k q)
+  where
+    go : (q < k → sum f k + g q ≡ sum g k + f q) → Dec (k ≡ q) → sum f k + f k + g q ≡ sum g k + g k + f q
+    go ih (yes e) =
+        let a : sum f k ≡ sum g k = sum-cong f g k (λ p x. h p (omega arith) (λ y. absurd (let w = y in omega arith))) in
+        let c : f k ≡ f q = ap f e in
+        let d : g k ≡ g q = ap g e in
+        omega arith
+    go ih (no d) = let a = ih (omega arith) in let c = h k (le-refl (suc k)) d in omega arith

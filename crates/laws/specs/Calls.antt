@@ -1,30 +1,33 @@
 -- The nine calls: a promise decides, a refused call leaves the store and the list, an accepted one leaves a sound store (demand 2).
 use mathlib.Core.Path.{_≡_, refl, sym, ap, _∙_, subst}
-use mathlib.Core.Logic.{_⊎_, inl, inr, ⊎-elim}
 use mathlib.Core.Bool.{Bool, true, false, not}
-use mathlib.Core.List.{List, [], _∷_, _++_}
-use Prim.Native.Nat.{ℕ, zero, suc, _+_, _*_, _≤_, _<_}
+use mathlib.Core.List.{List, [], _∷_}
+use Prim.Native.Nat.{ℕ, _+_, _*_, _≤_}
 use native.Mathlib.Omega.{arith}
-use lib.Dec.{T, T-not, not-T, eqb, leb, eqb→eq, leb→le, le→leb}
-use lib.ListN.{length, replicate, length-replicate, getD, getD-replicate}
+use lib.Dec.{T, T-not, eqb, leb, eqb→eq, leb→le, le→leb}
+use lib.ListN.{length, length-replicate, getD-replicate}
 use Rattle.rules.specs.Tests.{_or_, _&_, pick}
 use Rattle.rules.specs.Limits.{most, none}
 use Rattle.rules.specs.Tables.{Base, Store, state, linkAt, holdsOf, isSound, empty}
-use Rattle.rules.specs.Words.{Sized, SizedBase, Sound, free}
-use Rattle.rules.specs.Commands.{Verdict, accepted, refused, firstOf, refusals, verdict, freedBy, nextStore}
-use Rattle.rules.specs.Calls.{Call, start, does, check, Areas, areasOf, numberOf, Reply, answered, saw, checked, Outcome, outcome, refusedBy, refusedCall, seenAt, doneBy, acceptedBy, listing, Effect, effect, effected, effectOf, takesList, takesWork, isSized, isLent, laterRefusals, callRefusals, judge, clear, cleared, acceptedCall, ended, outcomeOf, Promise, Did}
+use Rattle.rules.specs.Words.{Sized, free}
+use Rattle.rules.specs.Commands.{isLook, pieceOf, Verdict, accepted, refused, firstOf, refusals, verdict}
+use Rattle.rules.specs.Calls.{answered, saw, Call, start, does, check, Areas, areasOf, numberOf, checked, Outcome, outcome, refusedBy}
+use Rattle.rules.specs.Calls.{refusedCall, seenAt, doneBy, acceptedBy, Effect, effected, effectOf, takesWork, isSized}
+use Rattle.rules.specs.Calls.{isLent, laterRefusals, callRefusals, judge, clear, cleared, acceptedCall, ended, outcomeOf, Promise, Did}
 use Rattle.rules.specs.History.{isAccepted}
 use Rattle.rules.specs.declared.Refusal.{Refusal}
 use Rattle.rules.specs.declared.Refusal.the-variants.{Size, Unsound}
 use Rattle.rules.specs.declared.Checked.the-variants.{Yes, No}
 use Rattle.rules.specs.declared.Command.{Command}
-use Rattle.rules.specs.declared.Command.the-variants.{New, Set, Freeze, Acquire, Release, Bin, Look}
+use Rattle.rules.specs.declared.Answer.the-variants.{Refused}
+use Rattle.rules.specs.declared.Seen.the-variants.{Unseen}
 use Rattle.laws.specs.Tests.{and-both, and-left, and-right}
 use Rattle.laws.specs.Below.{pick-true, pick-false}
 use Rattle.laws.specs.Words.{eqb-of}
 use Rattle.laws.specs.Sound.{isSound→}
-use Rattle.laws.specs.Passes.{not-not, first-accepted, Passes, passes}
+use Rattle.laws.specs.Passes.{not-not, first-accepted, passes}
 use Rattle.laws.specs.Commands.{Ok, next-ok}
+use Rattle.laws.specs.Verdicts.{inOrder, table, by-table}
 
 -- promises decide: two outcomes, with all areas, that both meet a call's promise are the same
 pub decides : {c : Call} {a : Areas} {o o′ : Outcome} → Promise c a o → Promise c a o′ → o ≡ o′
@@ -75,13 +78,11 @@ lent-sized a c t = sized→ (a .store) (and-left (isSized (a .store)) _ t)
 refused-not : (r : Refusal) (c : Call) → T (not (isAccepted (refusedCall r c)))
 unfolding refusedCall refusedBy isAccepted
 refused-not r start = tt
-refused-not r (does New) = tt
-refused-not r (does (Set p k t)) = tt
-refused-not r (does (Freeze p)) = tt
-refused-not r (does (Acquire p)) = tt
-refused-not r (does (Release p)) = tt
-refused-not r (does (Bin p)) = tt
-refused-not r (does (Look p)) = tt
+refused-not r (does c) = go (isLook c)
+  where
+    go : (b : Bool) → T (not (isAccepted (pick b (saw (Unseen r)) (answered (Refused r)))))
+    go true = tt
+    go false = tt
 refused-not r check = tt
 
 pub accepted-judged : (a : Areas) (c : Call) → T (isAccepted (outcomeOf a c .reply)) → judge a c ≡ accepted
@@ -113,13 +114,11 @@ judged a c e =
 accepted-said : (c : Call) (a : Areas) → T (isAccepted (acceptedCall a c .reply))
 unfolding acceptedCall isAccepted acceptedBy seenAt
 accepted-said start a = tt
-accepted-said (does New) a = unfold doneBy in tt
-accepted-said (does (Set p k t)) a = unfold doneBy in tt
-accepted-said (does (Freeze p)) a = unfold doneBy in tt
-accepted-said (does (Acquire p)) a = unfold doneBy in tt
-accepted-said (does (Release p)) a = unfold doneBy in tt
-accepted-said (does (Bin p)) a = unfold doneBy in tt
-accepted-said (does (Look p)) a = tt
+accepted-said (does c) a = go (isLook c)
+  where
+    go : (b : Bool) → T (isAccepted (pick b (saw (seenAt (a .store) (pieceOf c))) (answered (doneBy (a .store .base) c))))
+    go true = tt
+    go false = unfold doneBy in tt
 accepted-said check a = go (isSound (a .store))
   where
     go : (b : Bool) → T (isAccepted (checked (pick b Yes No)))
@@ -154,7 +153,7 @@ empty-ok n h = record {
       (getD-replicate n p none 0 l) (getD-replicate n p 0 0 l);
 }
 
--- After every accepted call, but for check, the store is what 01 defines: each area its length, and sound
+-- After every accepted call, but for check, the store is what the rules define: each area its length, and sound
 pub accepted-ok : (a : Areas) (c : Call) → judge a c ≡ accepted → (c ≡ check → ⊥) → Ok (outcomeOf a c .areas .store)
 accepted-ok a start e d =
     rw (accepted-outcome a start e) (unfold acceptedCall cleared in (empty-ok (a .store .base .n) (lent-sized a start (start-lent e) .1 .base .most)))
@@ -184,8 +183,7 @@ first-later (q ∷ rs) r t e = go (q .0) e (λ u. first-later rs r (and-right (n
     go false e ih = ih e
 
 pub not-size : (b : Base) (c : Command) (r : Refusal) → verdict b c ≡ refused r → T (not (eqb (numberOf r) 1))
-unfolding verdict
-not-size b c r e = first-later (refusals b c) r (unfold refusals noSize in tt) e
+not-size b c r e = first-later (inOrder table (refusals b c)) r (unfold inOrder noSize in tt) (sym (by-table b c) ∙ e)
 
 pub double-not : (b : Bool) → T b → T (not (not b))
 double-not true t = tt

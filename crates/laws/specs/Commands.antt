@@ -10,18 +10,20 @@ use lib.ListN.{set, length-set}
 use Rattle.rules.specs.Tests.{_or_, _&_, pick}
 use Rattle.laws.specs.Tests.{or-cases, and-both, and-left, and-right}
 use Rattle.rules.specs.Limits.{none}
-use Rattle.rules.specs.Below.{any, list}
+use Rattle.rules.specs.Below.{list}
 use Rattle.laws.specs.Below.{T-dec, pick-true, pick-false, length-table, Lowest, lowest-is, among-nil, among-list}
 use Rattle.rules.specs.Lists.{Among}
-use Rattle.rules.specs.Tables.{Base, Store, state, isFree, isFrozen, holdsOf, reaches, isKept, finish, leaderEntry, countEntry}
+use Rattle.rules.specs.Tables.{Base, Store, state, isFree, isFrozen, holdsOf, isKept, finish, leaderEntry, countEntry}
 use Rattle.rules.specs.Words.{Frozen, Live, Kept, Sound, SizedBase, Sized}
 use Rattle.laws.specs.Words.{isFrozen→, →isFrozen, isKept→, →isKept}
 use Rattle.laws.specs.Sound.{Good, sound→entries, finish-sound}
 use Rattle.laws.specs.Settle.{settled-good}
-use Rattle.rules.specs.Commands.{Verdict, accepted, refused, wrongNumber, namesFree, wrongState, atLimit, notHeld, linked, full, withStates, withLinks, withHolds, oneMore, oneLess, freeAll, gone, goneList, firstFree, freezeFirst, edit, settles, freedBy, after, verdict, nextStore, settled, stepTo}
+use Rattle.rules.specs.Commands.{Verdict, accepted, refused, atLimit, noneFree, refusals, withStates, withLinks, withHolds, oneMore, oneLess, freeAll}
+use Rattle.rules.specs.Commands.{gone, goneList, firstFree, freezeFirst, edit, settles, freedBy, after, verdict, nextStore, settled, stepTo}
+use Rattle.rules.specs.declared.Refusal.the-variants.{Number, Free, State, Limit, Linked, Full}
 use Rattle.rules.specs.declared.Command.{Command}
 use Rattle.rules.specs.declared.Command.the-variants.{New, Set, Freeze, Acquire, Release, Bin, Look}
-use Rattle.laws.specs.Passes.{Passes, Wells, frozen-of, live, live-draft, live-frozen, not-not, not-or-left, not-or-right, passes, some-not}
+use Rattle.laws.specs.Passes.{applies, Passes, not-by, Wells, frozen-of, live, live-draft, live-frozen, not-not, not-or-left, not-or-right, passes, some-not}
 use Rattle.laws.specs.Edits.New.{new-good, newBase}
 use Rattle.laws.specs.Edits.Set.{set-well, setBase}
 use Rattle.laws.specs.Edits.Hold.{hold-good, hold-well, holdBase}
@@ -31,13 +33,13 @@ use Rattle.laws.specs.Edits.Bin.{bin-well}
 -- ---- each command
 
 -- new has a free number to give
-pub first-free : (b : Base) → T (not (full b New)) → Lowest (isFree b) (b .n) (firstFree b)
-unfolding full firstFree
-first-free b f = let w = some-not (isFree b) (b .n) f in lowest-is (isFree b) (b .n) (w .0) (w .1) (w .2)
+pub first-free : (b : Base) → Passes b New → Lowest (isFree b) (b .n) (firstFree b)
+unfolding noneFree refusals applies firstFree
+first-free b c = let w = some-not (isFree b) (b .n) (not-by c Full) in lowest-is (isFree b) (b .n) (w .0) (w .1) (w .2)
 
-pub first-free-state : (b : Base) → T (not (full b New)) → state b (firstFree b) ≡ 0
+pub first-free-state : (b : Base) → Passes b New → state b (firstFree b) ≡ 0
 unfolding isFree
-first-free-state b f = eqb→eq (state b (firstFree b)) 0 (first-free b f .is)
+first-free-state b c = eqb→eq (state b (firstFree b)) 0 (first-free b c .is)
 
 module _ (b : Base) (z : SizedBase b) (g : Good b) where
   pub below-of : (p : ℕ) → T (not (not (ltb p (b .n)))) → p < b .n
@@ -51,7 +53,8 @@ module _ (b : Base) (z : SizedBase b) (g : Good b) where
   more-good p h f l = hold-good b z (g .wells) p (holdsOf b p + 1) h f (let a = few in omega arith) g (omega arith)
     where
       few : holdsOf b p < 1000
-      few = nleb→lt 1000 (holdsOf b p) (not-T (leb 1000 (holdsOf b p)) (λ t. T-not (isFrozen b p & leb 1000 (holdsOf b p)) l (and-both (isFrozen b p) (leb 1000 (holdsOf b p)) (→isFrozen b p f) t)))
+      few =
+          nleb→lt 1000 (holdsOf b p) (not-T (leb 1000 (holdsOf b p)) (λ t. T-not (isFrozen b p & leb 1000 (holdsOf b p)) l (and-both (isFrozen b p) (leb 1000 (holdsOf b p)) (→isFrozen b p f) t)))
 
   freeze-good : (p : ℕ) → p < b .n → T (not (isFree b p)) → T (not (isFrozen b p & leb 1000 (holdsOf b p))) → Good (pick (isFrozen b p) (oneMore b p) (freezeFirst b p))
   unfolding fr
@@ -76,44 +79,50 @@ module _ (b : Base) (z : SizedBase b) (g : Good b) where
   edit-n (Look p) = refl
 
   pub edit-well : (c : Command) → Passes b c → Wells (edit b c)
-  unfolding edit wrongNumber namesFree wrongState atLimit notHeld linked newBase setBase holdBase oneLess
-  edit-well New c = new-good b z g (firstFree b) (first-free b (c .full) .below) (first-free-state b (c .full)) .wells
-  edit-well (Set p k t) c = set-well b z (g .wells) p k t h i (live-draft b p (g .wells p h) fp (c .state)) (⊎-elim (λ e. inl (eqb→eq t none e)) (λ ne. target ne (ltb→lt t (b .n) (or-skip ne))) (T-dec (eqb t none)))
+  unfolding edit refusals applies atLimit newBase setBase holdBase oneLess
+  edit-well New c = new-good b z g (firstFree b) (first-free b c .below) (first-free-state b c) .wells
+  edit-well (Set p k t) c =
+      set-well b z (g .wells) p k t h i (live-draft b p (g .wells p h) fp (not-by c State))
+      (⊎-elim (λ e. inl (eqb→eq t none e)) (λ ne. target ne (ltb→lt t (b .n) (or-skip ne))) (T-dec (eqb t none)))
     where
       n1 : T (not (not (ltb k 4) or not (eqb t none or ltb t (b .n))))
-      n1 = not-or-right (not (ltb p (b .n))) (not (ltb k 4) or not (eqb t none or ltb t (b .n))) (c .number)
+      n1 = not-or-right (not (ltb p (b .n))) (not (ltb k 4) or not (eqb t none or ltb t (b .n))) (not-by c Number)
 
       h : p < b .n
-      h = below-of p (not-or-left (not (ltb p (b .n))) (not (ltb k 4) or not (eqb t none or ltb t (b .n))) (c .number))
+      h = below-of p (not-or-left (not (ltb p (b .n))) (not (ltb k 4) or not (eqb t none or ltb t (b .n))) (not-by c Number))
 
       i : k < 4
       i = ltb→lt k 4 (not-not (ltb k 4) (not-or-left (not (ltb k 4)) (not (eqb t none or ltb t (b .n))) n1))
 
       fp : T (not (isFree b p))
-      fp = not-or-left (isFree b p) (not (eqb t none) & isFree b t) (c .free)
+      fp = not-or-left (isFree b p) (not (eqb t none) & isFree b t) (not-by c Free)
 
       or-skip : T (not (eqb t none)) → T (ltb t (b .n))
-      or-skip ne = ⊎-elim (λ e. absurd (T-not (eqb t none) ne e)) (λ x. x) (or-cases (eqb t none) (ltb t (b .n)) (not-not (eqb t none or ltb t (b .n)) (not-or-right (not (ltb k 4)) (not (eqb t none or ltb t (b .n))) n1)))
+      or-skip ne =
+          ⊎-elim (λ e. absurd (T-not (eqb t none) ne e)) (λ x. x) (or-cases (eqb t none) (ltb t (b .n))
+          (not-not (eqb t none or ltb t (b .n)) (not-or-right (not (ltb k 4)) (not (eqb t none or ltb t (b .n))) n1)))
 
       target : T (not (eqb t none)) → t < b .n → (t ≡ none) ⊎ Live b t
-      target ne m = inr (live b t m (g .wells t m) (not-T (isFree b t) (λ f. T-not (not (eqb t none) & isFree b t) (not-or-right (isFree b p) (not (eqb t none) & isFree b t) (c .free)) (and-both (not (eqb t none)) (isFree b t) ne f))))
-  edit-well (Freeze p) c = freeze-good p (below-of p (c .number)) (c .free) (c .limit) .wells
-  edit-well (Acquire p) c = more-good p (below-of p (c .number)) (live-frozen b p (g .wells p (below-of p (c .number))) (c .free) (c .state)) (c .limit) .wells
+      target ne m =
+          inr (live b t m (g .wells t m) (not-T (isFree b t) (λ f. T-not (not (eqb t none) & isFree b t)
+          (not-or-right (isFree b p) (not (eqb t none) & isFree b t) (not-by c Free)) (and-both (not (eqb t none)) (isFree b t) ne f))))
+  edit-well (Freeze p) c = freeze-good p (below-of p (not-by c Number)) (not-by c Free) (not-by c Limit) .wells
+  edit-well (Acquire p) c = more-good p (below-of p (not-by c Number)) (live-frozen b p (g .wells p (below-of p (not-by c Number))) (not-by c Free) (not-by c State)) (not-by c Limit) .wells
   edit-well (Release p) c =
-      let h = below-of p (c .number) in
-      let f = live-frozen b p (g .wells p h) (c .free) (c .state) in
+      let h = below-of p (not-by c Number) in
+      let f = live-frozen b p (g .wells p h) (not-by c Free) (not-by c State) in
       let fw = frozen-of b p (g .wells p h) f in
       hold-well b z (g .wells) p (holdsOf b p - 1) h f (let a = fw .holds in omega arith)
-  edit-well (Bin p) c = bin-well b (g .wells) p (c .linked)
+  edit-well (Bin p) c = bin-well b (g .wells) p (not-by c Linked)
   edit-well (Look p) c = g .wells
 
   -- Demand 2, over states, links and holds
   pub after-good : (c : Command) → Passes b c → Good (after b c)
-  unfolding after settles edit wrongNumber namesFree wrongState atLimit notHeld linked newBase
-  after-good New c = new-good b z g (firstFree b) (first-free b (c .full) .below) (first-free-state b (c .full))
+  unfolding after settles edit refusals applies atLimit newBase
+  after-good New c = new-good b z g (firstFree b) (first-free b c .below) (first-free-state b c)
   after-good (Set p k t) c = settle (edit b (Set p k t)) (edit-n (Set p k t)) (edit-well (Set p k t) c)
-  after-good (Freeze p) c = freeze-good p (below-of p (c .number)) (c .free) (c .limit)
-  after-good (Acquire p) c = more-good p (below-of p (c .number)) (live-frozen b p (g .wells p (below-of p (c .number))) (c .free) (c .state)) (c .limit)
+  after-good (Freeze p) c = freeze-good p (below-of p (not-by c Number)) (not-by c Free) (not-by c Limit)
+  after-good (Acquire p) c = more-good p (below-of p (not-by c Number)) (live-frozen b p (g .wells p (below-of p (not-by c Number))) (not-by c Free) (not-by c State)) (not-by c Limit)
   after-good (Release p) c = settle (edit b (Release p)) (edit-n (Release p)) (edit-well (Release p) c)
   after-good (Bin p) c = settle (edit b (Bin p)) (edit-n (Bin p)) (edit-well (Bin p) c)
   after-good (Look p) c = g

@@ -1,21 +1,19 @@
 -- Counts: a group with a count of at least 1 is held, or linked from outside; where every frozen piece's group has one, every frozen piece is kept.
-use mathlib.Core.Path.{_≡_, refl, sym, ap, ap₂, _∙_, subst}
-use mathlib.Core.Logic.{_⊎_, inl, inr, ⊎-elim, _↔_, _≢_}
+use mathlib.Core.Path.{_≡_, refl, subst}
+use mathlib.Core.Logic.{_⊎_, inl, inr, ⊎-elim}
 use mathlib.Core.Bool.{Bool, true, false, not}
-use Prim.Native.Nat.{ℕ, zero, suc, _+_, _*_, _≤_, _<_, zero-le, suc-le-suc}
-use native.Mathlib.Nat.{le-refl, not-suc-le-zero, le-trans}
+use Prim.Native.Nat.{ℕ, zero, suc, _+_, _*_, _≤_, _<_, zero-le}
+use native.Mathlib.Nat.{le-refl, not-suc-le-zero}
 use native.Mathlib.Decide.{ℕ-discrete}
 use native.Mathlib.Omega.{arith}
-use lib.Dec.{T, T-not, not-T, eqb, ltb, leb}
-use Rattle.rules.specs.Tests.{_or_, _&_, pick, onlyIf}
-use Rattle.laws.specs.Tests.{or-left, or-right, or-cases, and-both, and-left, and-right}
-use Rattle.rules.specs.Limits.{none}
+use lib.Dec.{T, T-not, not-T}
+use Rattle.rules.specs.Tests.{_or_, _&_, onlyIf}
+use Rattle.laws.specs.Tests.{or-cases, and-left, and-right}
 use Rattle.rules.specs.Below.{sum}
-use Rattle.laws.specs.Below.{T-dec}
-use Rattle.rules.specs.Reach.{Reach, here, chain, Link}
-use Rattle.rules.specs.Tables.{Base, state, isDraft, isFrozen, isLive, linkAt, holdsOf, reaches, inGroup, leaderOf, places, countOf}
-use Rattle.rules.specs.Words.{Draft, Frozen, Live, Reaches, Group, Leader, Root, Kept}
-use Rattle.laws.specs.Words.{trans, end-below, reaches→, →reaches, inGroup→, →inGroup, isDraft→, isFrozen→, leaderOf-is, leader-one}
+use Rattle.rules.specs.Reach.{here, chain, Link}
+use Rattle.rules.specs.Tables.{Base, isDraft, isFrozen, isLive, linkAt, holdsOf, reaches, inGroup, leaderOf, places, countOf}
+use Rattle.rules.specs.Words.{Frozen, Live, Reaches, Group, Leader, Kept}
+use Rattle.laws.specs.Words.{trans, reaches→, →reaches, inGroup→, →inGroup, isDraft→, isFrozen→, leaderOf-is, leader-one}
 
 -- ---- sums
 
@@ -161,5 +159,6 @@ unfolding countOf places
 count-most b m hs p =
     let x = sum-most (λ q. onlyIf (inGroup b p q) (holdsOf b q)) 1000 (b .n) (λ q _. onlyIf-most (inGroup b p q) (holdsOf b q) 1000 (λ t. hs q (inGroup→ b p q t .frozen))) in
     let y = sum-most (λ r. onlyIf (isLive b r & not (inGroup b p r)) (sum (λ k. onlyIf (inGroup b p (linkAt b r k)) 1) 4)) 4 (b .n)
-    (λ r _. onlyIf-most (isLive b r & not (inGroup b p r)) (sum (λ k. onlyIf (inGroup b p (linkAt b r k)) 1) 4) 4 (λ _. sum-most (λ k. onlyIf (inGroup b p (linkAt b r k)) 1) 1 4 (λ k _. onlyIf-most (inGroup b p (linkAt b r k)) 1 1 (λ _. le-refl 1)))) in
+    (λ r _. onlyIf-most (isLive b r & not (inGroup b p r)) (sum (λ k. onlyIf (inGroup b p (linkAt b r k)) 1) 4) 4
+    (λ _. sum-most (λ k. onlyIf (inGroup b p (linkAt b r k)) 1) 1 4 (λ k _. onlyIf-most (inGroup b p (linkAt b r k)) 1 1 (λ _. le-refl 1)))) in
     omega arith

@@ -1,45 +1,45 @@
 -- Demand 3: after any history, each accepted call lists exactly the frozen pieces that no chain of links reaches any more from a draft or from a held piece.
 use mathlib.Core.Path.{_≡_, refl, sym, ap, _∙_, subst}
-use mathlib.Core.Logic.{_⊎_, inl, inr, ⊎-elim, _↔_, _≢_}
-use mathlib.Core.Bool.{Bool, true, false, not}
+use mathlib.Core.Logic.{_⊎_, inl, inr, ⊎-elim, _↔_}
+use mathlib.Core.Bool.{Bool, true, false}
 use mathlib.Core.List.{List, [], _∷_, _++_}
-use Prim.Native.Nat.{ℕ, zero, suc, _+_, _≤_, _<_}
+use Prim.Native.Nat.{ℕ, _+_, _≤_, _<_}
 use native.Mathlib.Omega.{arith}
 use lib.Dec.{T}
-use lib.ListN.{length, take, drop, getD-replicate}
+use lib.ListN.{length, drop, getD-replicate}
 use lib.Seq.{take-append-seam}
 use Rattle.rules.specs.Tests.{pick}
 use Rattle.rules.specs.Limits.{most}
 use Rattle.rules.specs.Lists.{Among, Ascending, nil}
 use Rattle.rules.specs.Below.{list}
-use Rattle.rules.specs.Tables.{Base, Store, state, isSound, holdsOf, finish, empty}
-use Rattle.rules.specs.Words.{Draft, Frozen, Live, Reaches, Root, Kept, SizedBase, Well, wfree, wdraft, wfrozen}
-use Rattle.rules.specs.Commands.{accepted, gone, goneList, edit, settles, freedBy, after, valueOf, nextStore}
-use Rattle.rules.specs.Calls.{Call, start, does, check, Areas, Reply, answered, saw, checked, Outcome, outcome, seenAt, doneBy, acceptedBy, listing, fresh, cleared, acceptedCall, judge, outcomeOf, Promise}
-use Rattle.rules.specs.History.{Event, event, isAccepted, History, accepting, added, taken, Held, freedIn, listed, Reached, changed, Binned, Listing}
+use Rattle.rules.specs.Tables.{Base, Store, state, holdsOf, finish, empty}
+use Rattle.rules.specs.Words.{Draft, Frozen, Live, Root, Kept, SizedBase, Well, wfree, wdraft, wfrozen}
+use Rattle.rules.specs.Commands.{accepted, gone, goneList, edit, settles, freedBy, after, nextStore}
+use Rattle.rules.specs.Calls.{Call, start, does, check, Areas, Outcome, doneBy, acceptedBy, listing}
+use Rattle.rules.specs.Calls.{cleared, acceptedCall, judge, outcomeOf, Promise}
+use Rattle.rules.specs.History.{Event, event, isAccepted, History, accepting, added, taken, Held, freedIn, listed, Reached, changed, Listing}
 use Rattle.rules.specs.declared.Command.{Command}
 use Rattle.rules.specs.declared.Command.the-variants.{New, Set, Freeze, Acquire, Release, Bin, Look}
 use Rattle.laws.specs.Below.{among-nil, ascending-list}
-use Rattle.laws.specs.Words.{end-below, root-below}
 use Rattle.laws.specs.Sound.{Good, sound→entries}
 use Rattle.laws.specs.Passes.{Passes, passes}
-use Rattle.laws.specs.Commands.{edit-n, edit-well, freed↔, Ok}
+use Rattle.laws.specs.Commands.{edit-n, edit-well, freed↔}
 use Rattle.laws.specs.Calls.{accepted-judged, accepted-outcome, judged}
 use Rattle.laws.specs.Held.{after-same}
-use Rattle.laws.specs.History.{Stands, stands}
+use Rattle.laws.specs.History.{Follows, follows}
 use Rattle.laws.specs.Freed.{alone}
 
 -- ---- kept by the table of holds, and reached by the history's
 
 module _ (h : List Event) (b : Base) (wells : (p : ℕ) → p < b .n → Well b p) (held : (p : ℕ) → p < b .n → holdsOf b p + taken p h ≡ added p h) where
-  kept→reached : (p : ℕ) → Kept b p → Reached h b p
+  pub kept→reached : (p : ℕ) → Kept b p → Reached h b p
   kept→reached p k = record { root = k .root; is = go (k .is); reached = k .reached }
     where
       go : Root b (k .root) → Draft b (k .root) ⊎ ((k .root < b .n) × Held h (k .root))
       go (inl d) = inl d
       go (inr f) = inr (f .0 .below, let x = held (k .root) (f .0 .below) in let y = f .1 in omega arith)
 
-  reached→kept : (p : ℕ) → Reached h b p → Kept b p
+  pub reached→kept : (p : ℕ) → Reached h b p → Kept b p
   reached→kept p k = record { root = k .root; is = go (k .is); reached = k .reached }
     where
       frozen : (r : ℕ) → r < b .n → 0 < holdsOf b r → Well b r → Frozen b r
@@ -64,6 +64,10 @@ listed-command a (Release p) = take-append-seam (freedBy (a .store .base) (Relea
 listed-command a (Bin p) = take-append-seam (freedBy (a .store .base) (Bin p)) _
 listed-command a (Look p) = unfold freedBy settles in refl
 
+-- so does that of an outcome that keeps the promise
+pub listed-is : (a : Areas) (o : Outcome) (c : Command) → Promise (does c) a o → judge a (does c) ≡ accepted → listed o ≡ freedBy (a .store .base) c
+listed-is a o c p j = ap listed (p .exact ∙ accepted-outcome a (does c) j) ∙ listed-command (cleared a (does c)) c ∙ (unfold cleared in refl)
+
 pub ascending-freed : (b : Base) (c : Command) → Ascending (freedBy b c)
 unfolding freedBy
 ascending-freed b c = go (settles c)
@@ -86,11 +90,11 @@ start-listing h a = record {
     empty-free : (p : ℕ) → Frozen (empty (a .store .base .n) .base) p → ⊥
     empty-free p f = let x : state (empty (a .store .base .n) .base) p ≡ 0 = unfold empty state in (getD-replicate (a .store .base .n) p 0 0 (f .below)) in let y = f .is in omega arith
 
-module _ (n : ℕ) (h : List Event) (a : Areas) (st : Stands n h (a .store)) (o : Outcome) where
+module _ (n : ℕ) (h : List Event) (a : Areas) (st : Follows n h (a .store)) (o : Outcome) where
   base-good : Good (a .store .base)
   base-good = sound→entries (a .store) (st .ok .sound) .good
 
-  command-listing : (c : Command) → Passes (a .store .base) c → Stands n (event (does c) o ∷ h) (o .areas .store) → listed o ≡ freedBy (a .store .base) c
+  command-listing : (c : Command) → Passes (a .store .base) c → Follows n (event (does c) o ∷ h) (o .areas .store) → listed o ≡ freedBy (a .store .base) c
       → o .areas .store .base ≡ after (a .store .base) c → o .areas .list ≡ listing (freedBy (a .store .base) c) (a .list) → Listing h (does c) a o
   unfolding changed
   command-listing c ps st′ ls bs li = record {
@@ -137,7 +141,7 @@ module _ (n : ℕ) (h : List Event) (a : Areas) (st : Stands n h (a .store)) (o 
       bin-of : {p : ℕ} → does c ≡ does (Bin p) → c ≡ Bin p
       bin-of m = cc m
 
-  check-listing : o ≡ acceptedCall (cleared a check) check → Stands n (event check o ∷ h) (o .areas .store) → Listing h check a o
+  check-listing : o ≡ acceptedCall (cleared a check) check → Follows n (event check o ∷ h) (o .areas .store) → Listing h check a o
   unfolding acceptedCall cleared changed listed freedIn
   check-listing e st′ = record {
     exact = λ p. subst (λ (l : List ℕ). Among p l ↔ (Frozen b p × (¬ Reached h′ b p))) (sym nothing)
@@ -160,7 +164,11 @@ module _ (n : ℕ) (h : List Event) (a : Areas) (st : Stands n h (a .store)) (o 
       same = ap (λ (y : Outcome). y .areas .store) e
 
       held : (p : ℕ) → p < b .n → holdsOf b p + taken p h′ ≡ added p h′
-      held p l = let i : p < n = subst (λ (x : ℕ). p < x) (st .size) l in let y : holdsOf (o .areas .store .base) p ≡ holdsOf b p = ap (λ (q : Store). holdsOf (q .base) p) same in let x = st′ .held p i in omega arith
+      held p l =
+          let i : p < n = subst (λ (x : ℕ). p < x) (st .size) l in
+          let y : holdsOf (o .areas .store .base) p ≡ holdsOf b p = ap (λ (q : Store). holdsOf (q .base) p) same in
+          let x = st′ .held p i in
+          omega arith
 
       live-not-free : (p : ℕ) → Live b p × (state (o .areas .store .base) p ≡ 0) → ⊥
       live-not-free p y =
@@ -171,12 +179,12 @@ module _ (n : ℕ) (h : List Event) (a : Areas) (st : Stands n h (a .store)) (o 
 -- Demand 3
 pub demand3 : (n : ℕ) → n ≤ most → (h : List Event) (c : Call) (a : Areas) (o : Outcome) → History n h (a .store) → Promise c a o → T (isAccepted (o .reply)) → Listing h c a o
 unfolding acceptedCall cleared nextStore finish
-demand3 n m h c a o r p t = go c (accepted-judged a c (subst (λ (x : Outcome). T (isAccepted (x .reply))) (p .exact) t)) (p .exact) (stands n m (accepting c a o r p t))
+demand3 n m h c a o r p t = go c (accepted-judged a c (subst (λ (x : Outcome). T (isAccepted (x .reply))) (p .exact) t)) (p .exact) (follows n m (accepting c a o r p t))
   where
-    st : Stands n h (a .store)
-    st = stands n m r
+    st : Follows n h (a .store)
+    st = follows n m r
 
-    go : (c : Call) → judge a c ≡ accepted → o ≡ outcomeOf a c → Stands n (event c o ∷ h) (o .areas .store) → Listing h c a o
+    go : (c : Call) → judge a c ≡ accepted → o ≡ outcomeOf a c → Follows n (event c o ∷ h) (o .areas .store) → Listing h c a o
     go start j e st′ = subst (Listing h start a) (sym (e ∙ accepted-outcome a start j)) (start-listing h a)
     go (does c) j e st′ =
         let x : o ≡ acceptedCall (cleared a (does c)) (does c) = e ∙ accepted-outcome a (does c) j in

@@ -1,20 +1,20 @@
 -- Which pieces an accepted command frees: those that it lists, and a binned draft.
 use mathlib.Core.Path.{_≡_, refl, sym, ap, _∙_, subst}
-use mathlib.Core.Logic.{_⊎_, inl, inr, ⊎-elim, _↔_, _≢_}
-use mathlib.Core.Bool.{Bool, true, false, not}
-use mathlib.Core.List.{List, [], _∷_}
-use Prim.Native.Nat.{ℕ, zero, suc, _+_, _≤_, _<_}
+use mathlib.Core.Logic.{_⊎_, inl, inr, ⊎-elim, _↔_}
+use mathlib.Core.Bool.{Bool, true, false}
+use mathlib.Core.List.{[]}
+use Prim.Native.Nat.{ℕ, _<_}
 use native.Mathlib.Decide.{ℕ-discrete}
 use native.Mathlib.Omega.{arith}
-use lib.Dec.{T, T-not, not-T, eqb, eqb→eq}
-use lib.ListN.{length, getD, set}
+use lib.Dec.{T, eqb, eqb→eq}
+use lib.ListN.{getD, set}
 use lib.Seq.{getD-set-same, getD-set-other}
 use Rattle.rules.specs.Tests.{_or_, _&_, pick}
-use Rattle.rules.specs.Below.{list, table}
 use Rattle.rules.specs.Lists.{Among}
-use Rattle.rules.specs.Tables.{Base, state, isFree, isDraft, isFrozen, reaches}
-use Rattle.rules.specs.Words.{Draft, Frozen, Live, SizedBase}
-use Rattle.rules.specs.Commands.{wrongNumber, namesFree, wrongState, withStates, withLinks, withHolds, oneMore, oneLess, freeAll, gone, goneList, firstFree, freezeFirst, edit, settles, freedBy, after}
+use Rattle.rules.specs.Tables.{Base, state, isDraft, isFrozen, reaches}
+use Rattle.rules.specs.Words.{Draft, Live, SizedBase}
+use Rattle.rules.specs.Commands.{refusals, withStates, withLinks, withHolds, oneMore, oneLess, freeAll, gone, goneList, firstFree, freezeFirst, edit, settles, freedBy, after}
+use Rattle.rules.specs.declared.Refusal.the-variants.{Number, Free, State}
 use Rattle.rules.specs.declared.Command.{Command}
 use Rattle.rules.specs.declared.Command.the-variants.{New, Set, Freeze, Acquire, Release, Bin, Look}
 use Rattle.laws.specs.Tests.{and-left}
@@ -22,8 +22,8 @@ use Rattle.laws.specs.Below.{T-dec, pick-true, pick-false, getD-table, a
 use Rattle.laws.specs.Words.{eqb-of, isDraft→, isFrozen→}
 use Rattle.laws.specs.Sound.{Good}
 use Rattle.laws.specs.Settle.{state-freeAll}
-use Rattle.laws.specs.Passes.{Passes, live-draft}
-use Rattle.laws.specs.Commands.{below-of, first-free-state, first-free, edit-n}
+use Rattle.laws.specs.Passes.{applies, Passes, not-by, live-draft}
+use Rattle.laws.specs.Commands.{below-of, first-free, edit-n}
 
 module _ (b : Base) (z : SizedBase b) (g : Good b) where
   -- new makes one number a draft
@@ -32,7 +32,9 @@ module _ (b : Base) (z : SizedBase b) (g : Good b) where
   new-state p c = go (ℕ-discrete p (firstFree b))
     where
       go : Dec (p ≡ firstFree b) → (getD (set (b .states) (firstFree b) 1) p 0 ≡ 1) ⊎ (getD (set (b .states) (firstFree b) 1) p 0 ≡ getD (b .states) p 0)
-      go (yes e) = inl (ap (λ (x : ℕ). getD (set (b .states) (firstFree b) 1) x 0) e ∙ getD-set-same (b .states) (firstFree b) 1 0 (subst (λ (x : ℕ). firstFree b < x) (sym (z .states)) (first-free b (c .full) .below)))
+      go (yes e) =
+          inl (ap (λ (x : ℕ). getD (set (b .states) (firstFree b) 1) x 0) e
+          ∙ getD-set-same (b .states) (firstFree b) 1 0 (subst (λ (x : ℕ). firstFree b < x) (sym (z .states)) (first-free b c .below)))
       go (no d) = inr (getD-set-other (b .states) (firstFree b) p 1 0 d)
 
   -- freeze makes drafts frozen
@@ -51,7 +53,8 @@ module _ (b : Base) (z : SizedBase b) (g : Good b) where
 
       go : (x : Bool) → ((state (pick x (oneMore b q) (freezeFirst b q)) p ≡ 2) × Draft b p) ⊎ (state (pick x (oneMore b q) (freezeFirst b q)) p ≡ state b p)
       go true = inr more
-      go false = ⊎-elim (λ t. inl (at ∙ pick-true turns 2 (state b p) t, isDraft→ b p h (and-left (isDraft b p) (reaches b q p) t))) (λ t. inr (at ∙ pick-false turns 2 (state b p) t)) (T-dec turns)
+      go false =
+          ⊎-elim (λ t. inl (at ∙ pick-true turns 2 (state b p) t, isDraft→ b p h (and-left (isDraft b p) (reaches b q p) t))) (λ t. inr (at ∙ pick-false turns 2 (state b p) t)) (T-dec turns)
 
   -- a command's own change frees a binned draft alone
   pub edit-free : (c : Command) → Passes b c → (p : ℕ) → p < b .n → state (edit b c) p ≡ 0 → (state b p ≡ 0) ⊎ (c ≡ Bin p)
@@ -115,12 +118,12 @@ module _ (b : Base) (z : SizedBase b) (g : Good b) where
 
   -- so does a binned draft
   binned : (p : ℕ) → Passes b (Bin p) → Live b p × (state (after b (Bin p)) p ≡ 0)
-  unfolding after settles edit wrongNumber namesFree wrongState
+  unfolding after settles edit refusals applies
   binned p c =
-      let h = below-of b z g p (c .number) in
+      let h = below-of b z g p (not-by c Number) in
       let e : Base = freeAll b (eqb p) in
       let x : state e p ≡ 0 = state-freeAll b (eqb p) p h ∙ pick-true (eqb p p) 0 (state b p) (eqb-of {m = p} {n = p} refl) in
-      (inl (record { below = h; is = live-draft b p (g .wells p h) (c .free) (c .state) }), state-freeAll e (gone e) p (e-below (Bin p) p h) ∙ zeros (gone e p) (state e p) x)
+      (inl (record { below = h; is = live-draft b p (g .wells p h) (not-by c Free) (not-by c State) }), state-freeAll e (gone e) p (e-below (Bin p) p h) ∙ zeros (gone e p) (state e p) x)
     where
       zeros : (t : Bool) (y : ℕ) → y ≡ 0 → pick t 0 y ≡ 0
       zeros true y e = refl
@@ -128,4 +131,5 @@ module _ (b : Base) (z : SizedBase b) (g : Good b) where
 
   -- besides a binned draft those alone are freed
   pub alone : (c : Command) → Passes b c → (p : ℕ) → (Live b p × (state (after b c) p ≡ 0)) ↔ (Among p (freedBy b c) ⊎ (c ≡ Bin p))
-  alone c ps p = (λ x. freed-to c ps p (x .0) (x .1), ⊎-elim (freed-from c ps p) (λ e. subst (λ (d : Command). Live b p × (state (after b d) p ≡ 0)) (sym e) (binned p (subst (Passes b) e ps))))
+  alone c ps p =
+      (λ x. freed-to c ps p (x .0) (x .1), ⊎-elim (freed-from c ps p) (λ e. subst (λ (d : Command). Live b p × (state (after b d) p ≡ 0)) (sym e) (binned p (subst (Passes b) e ps))))

@@ -1,21 +1,11 @@
 -- The paper's rule: two frozen pieces share a leader exactly if each reaches the other. Kept, by counts.
-use mathlib.Core.Path.{_≡_, refl, sym, ap, _∙_, subst}
-use mathlib.Core.Logic.{_⊎_, inl, inr, ⊎-elim, _↔_, _≢_}
-use mathlib.Core.Bool.{Bool, true, false, not}
-use Prim.Native.Nat.{ℕ, zero, suc, _+_, _≤_, _<_, zero-le}
-use native.Mathlib.Nat.{le-antisymm}
-use native.Mathlib.Decide.{ℕ-discrete}
-use native.Mathlib.Omega.{arith}
-use lib.Dec.{T, T-not, not-T}
-use Rattle.rules.specs.Tests.{_or_, _&_, onlyIf}
-use Rattle.rules.specs.Below.{sum}
-use Rattle.rules.specs.Reach.{Reach, here, chain, Link}
-use Rattle.rules.specs.Tables.{Base, isLive, isDraft, isFrozen, linkAt, holdsOf, inGroup, leaderOf, places, countOf}
-use Rattle.rules.specs.Words.{Draft, Frozen, Live, Reaches, Group, Leader, Root, Kept, DraftWell, FrozenWell, Well}
-use Rattle.laws.specs.Tests.{or-left, or-right, and-both}
-use Rattle.laws.specs.Words.{trans, →inGroup, inGroup→, →isDraft, →isFrozen, leaderOf-is, leader-one}
-use Rattle.laws.specs.Sound.{Good}
-use Rattle.laws.specs.Counts.{all-kept}
+use mathlib.Core.Path.{_≡_, sym, subst}
+use mathlib.Core.Logic.{_↔_}
+use Prim.Native.Nat.{ℕ}
+use Rattle.rules.specs.Tests.{_or_}
+use Rattle.rules.specs.Tables.{Base, leaderOf}
+use Rattle.rules.specs.Words.{Frozen, Reaches, Group, Leader}
+use Rattle.laws.specs.Words.{trans, leaderOf-is, leader-one}
 
 module _ (b : Base) where
   -- two pieces of one group have the same group
@@ -43,7 +33,3 @@ module _ (b : Base) where
 
       from : Reaches b p q × Reaches b q p → leaderOf b p ≡ leaderOf b q
       from r = leader-one b q (leaderOf b p) (leaderOf b q) (leader-shared f (record { frozen = g; there = r .0; back = r .1 }) x) y
-
-  -- a piece with a leader is frozen, whoever says so
-  pub leader-frozen : (p l : ℕ) → Leader b p l → Frozen b l
-  leader-frozen p l x = x .member .frozen

@@ -1,21 +1,20 @@
 -- The table of holds is what the history says: accepted freezes and acquires less releases, since the number was last given out.
-use mathlib.Core.Path.{_≡_, refl, sym, ap, ap₂, _∙_, subst}
-use mathlib.Core.Logic.{_⊎_, inl, inr, ⊎-elim, _≢_}
+use mathlib.Core.Path.{_≡_, refl, sym, ap, _∙_, subst}
+use mathlib.Core.Logic.{_⊎_, inr, ⊎-elim, _≢_}
 use mathlib.Core.Bool.{Bool, true, false, not}
-use mathlib.Core.List.{List, [], _∷_}
-use Prim.Native.Nat.{ℕ, zero, suc, _+_, _*_, _-_, _≤_, _<_}
+use Prim.Native.Nat.{ℕ, zero, suc, _+_, _-_, _<_}
 use native.Mathlib.Decide.{ℕ-discrete}
 use native.Mathlib.Omega.{arith}
-use lib.Dec.{T, T-not, not-T, eqb, ltb, leb, eqb→eq, lt→ltb}
-use lib.ListN.{length, getD, set}
+use lib.Dec.{T, T-not, eqb, eqb→eq}
+use lib.ListN.{getD, set}
 use lib.Seq.{getD-set-same, getD-set-other}
-use Rattle.rules.specs.Tests.{_or_, _&_, pick, onlyIf}
-use Rattle.rules.specs.Limits.{none}
+use Rattle.rules.specs.Tests.{_or_, pick, onlyIf}
 use Rattle.rules.specs.Reach.{here}
-use Rattle.rules.specs.Tables.{Base, Store, state, isFree, isDraft, isFrozen, holdsOf, isKept}
-use Rattle.rules.specs.Words.{Frozen, Kept, SizedBase, Well, wfree, wdraft, wfrozen}
-use Rattle.rules.specs.Commands.{wrongNumber, namesFree, wrongState, notHeld, withStates, withLinks, withHolds, oneMore, oneLess, freeAll, gone, freezeFirst, edit, settles, after}
+use Rattle.rules.specs.Tables.{Base, isFree, isFrozen, holdsOf, isKept}
+use Rattle.rules.specs.Words.{SizedBase}
+use Rattle.rules.specs.Commands.{notHeld, refusals, withStates, withLinks, withHolds, oneMore, oneLess, freeAll, gone, freezeFirst, edit, settles, after}
 use Rattle.rules.specs.History.{addsTo, takesFrom}
+use Rattle.rules.specs.declared.Refusal.the-variants.{Number, Free, State, NotHeld}
 use Rattle.rules.specs.declared.Command.{Command}
 use Rattle.rules.specs.declared.Command.the-variants.{New, Set, Freeze, Acquire, Release, Bin, Look}
 use Rattle.laws.specs.Tests.{and-left, and-right}
@@ -23,7 +22,7 @@ use Rattle.laws.specs.Below.{T-dec, pick-true, pick-false}
 use Rattle.laws.specs.Words.{eqb-of, neqb-of, isFrozen→, →isKept}
 use Rattle.laws.specs.Sound.{Good}
 use Rattle.laws.specs.Settle.{holds-freeAll}
-use Rattle.laws.specs.Passes.{Passes, draft-of, live-draft}
+use Rattle.laws.specs.Passes.{applies, Passes, not-by, draft-of, live-draft}
 use Rattle.laws.specs.Commands.{below-of, edit-n}
 
 module _ (b : Base) (z : SizedBase b) (g : Good b) where
@@ -33,7 +32,9 @@ module _ (b : Base) (z : SizedBase b) (g : Good b) where
   set-holds q p v h = go (ℕ-discrete p q)
     where
       go : Dec (p ≡ q) → getD (set (b .holds) q v) p 0 ≡ pick (eqb q p) v (getD (b .holds) p 0)
-      go (yes e) = ap (λ (x : ℕ). getD (set (b .holds) q v) x 0) e ∙ getD-set-same (b .holds) q v 0 (subst (λ (x : ℕ). q < x) (sym (z .holds)) h) ∙ sym (pick-true (eqb q p) v (getD (b .holds) p 0) (eqb-of (sym e)))
+      go (yes e) =
+          ap (λ (x : ℕ). getD (set (b .holds) q v) x 0) e ∙ getD-set-same (b .holds) q v 0 (subst (λ (x : ℕ). q < x) (sym (z .holds)) h)
+          ∙ sym (pick-true (eqb q p) v (getD (b .holds) p 0) (eqb-of (sym e)))
       go (no d) = getD-set-other (b .holds) q p v 0 d ∙ sym (pick-false (eqb q p) v (getD (b .holds) p 0) (neqb-of (λ e. d (sym e))))
 
   -- one more on q
@@ -57,13 +58,13 @@ module _ (b : Base) (z : SizedBase b) (g : Good b) where
 
   -- the command's own change
   edit-holds : (c : Command) → Passes b c → (p : ℕ) → p < b .n → holdsOf (edit b c) p + onlyIf (takesFrom p c) 1 ≡ holdsOf b p + onlyIf (addsTo p c) 1
-  unfolding edit addsTo takesFrom withStates withLinks withHolds oneMore oneLess freezeFirst wrongNumber namesFree wrongState notHeld
+  unfolding edit addsTo takesFrom withStates withLinks withHolds oneMore oneLess freezeFirst refusals applies notHeld
   edit-holds New c p h = unfold holdsOf in refl
   edit-holds (Set q k t) c p h = unfold holdsOf in refl
   edit-holds (Freeze q) c p h = ⊎-elim was draft (T-dec (isFrozen b q))
     where
       m : q < b .n
-      m = below-of b z g q (c .number)
+      m = below-of b z g q (not-by c Number)
 
       was : T (isFrozen b q) → holdsOf (pick (isFrozen b q) (oneMore b q) (freezeFirst b q)) p + 0 ≡ holdsOf b p + onlyIf (eqb q p) 1
       was t =
@@ -74,24 +75,24 @@ module _ (b : Base) (z : SizedBase b) (g : Good b) where
       draft : T (not (isFrozen b q)) → holdsOf (pick (isFrozen b q) (oneMore b q) (freezeFirst b q)) p + 0 ≡ holdsOf b p + onlyIf (eqb q p) 1
       draft t =
           let e = ap (λ (x : Base). holdsOf x p) (pick-false (isFrozen b q) (oneMore b q) (freezeFirst b q) t) in
-          let d = draft-holds q m (c .free) t in
+          let d = draft-holds q m (not-by c Free) t in
           let f : 1 ≡ holdsOf b q + 1 = omega arith in
           let x = more q p (holdsOf (freezeFirst b q) p) 1 (unfold holdsOf in (set-holds q p 1 m)) f in
           omega arith
   edit-holds (Acquire q) c p h =
-      let x = more q p (holdsOf (oneMore b q) p) (holdsOf b q + 1) (unfold holdsOf in (set-holds q p (holdsOf b q + 1) (below-of b z g q (c .number)))) refl in
+      let x = more q p (holdsOf (oneMore b q) p) (holdsOf b q + 1) (unfold holdsOf in (set-holds q p (holdsOf b q + 1) (below-of b z g q (not-by c Number)))) refl in
       omega arith
   edit-holds (Release q) c p h =
-      let y : holdsOf b q ≢ 0 = λ e. T-not (eqb (holdsOf b q) 0) (c .held) (eqb-of e) in
+      let y : holdsOf b q ≢ 0 = λ e. T-not (eqb (holdsOf b q) 0) (not-by c NotHeld) (eqb-of e) in
       let f : holdsOf b q - 1 + 1 ≡ holdsOf b q = omega arith in
-      let x = less q p (holdsOf (oneLess b q) p) (holdsOf b q - 1) (unfold holdsOf in (set-holds q p (holdsOf b q - 1) (below-of b z g q (c .number)))) f in
+      let x = less q p (holdsOf (oneLess b q) p) (holdsOf b q - 1) (unfold holdsOf in (set-holds q p (holdsOf b q - 1) (below-of b z g q (not-by c Number)))) f in
       omega arith
   edit-holds (Bin q) c p h =
       let x = holds-freeAll b (eqb q) p h in
       ⊎-elim
       (λ t.
       let y = pick-true (eqb q p) 0 (holdsOf b p) t in
-      let d = draft-holds q (below-of b z g q (c .number)) (c .free) (c .state) in
+      let d = draft-holds q (below-of b z g q (not-by c Number)) (not-by c Free) (not-by c State) in
       let e : holdsOf b q ≡ holdsOf b p = ap (holdsOf b) (eqb→eq q p t) in
       omega arith)
       (λ t. let y = pick-false (eqb q p) 0 (holdsOf b p) t in omega arith) (T-dec (eqb q p))

@@ -1,31 +1,28 @@
 -- After any history the store is sound, and its holds are what the history says.
-use mathlib.Core.Path.{_≡_, refl, sym, ap, ap₂, _∙_, subst}
-use mathlib.Core.Logic.{_⊎_, inl, inr, ⊎-elim, _≢_}
+use mathlib.Core.Path.{_≡_, refl, sym, ap, _∙_, subst}
+use mathlib.Core.Logic.{_⊎_, ⊎-elim}
 use mathlib.Core.Bool.{Bool, true, false, not}
 use mathlib.Core.List.{List, [], _∷_}
-use Prim.Native.Nat.{ℕ, zero, suc, _+_, _*_, _-_, _≤_, _<_}
+use Prim.Native.Nat.{ℕ, _+_, _-_, _≤_, _<_}
 use native.Mathlib.Omega.{arith}
 use lib.Dec.{T, T-not, not-T, eqb, eqb→eq}
-use lib.ListN.{length, replicate, getD-replicate}
-use Rattle.rules.specs.Tests.{_or_, _&_, pick, onlyIf}
+use lib.ListN.{getD-replicate}
+use Rattle.rules.specs.Tests.{_or_, _&_, onlyIf}
 use Rattle.rules.specs.Limits.{most}
-use Rattle.rules.specs.Below.{lowest}
-use Rattle.rules.specs.Tables.{Base, Store, state, isFree, holdsOf, finish, empty}
-use Rattle.rules.specs.Words.{SizedBase, Sized, Sound}
-use Rattle.rules.specs.Commands.{accepted, firstFree, full, edit, settles, gone, freeAll, after, valueOf, nextStore}
-use Rattle.rules.specs.Calls.{Call, start, does, check, Areas, Reply, answered, saw, checked, Outcome, outcome, doneBy, acceptedBy, fresh, cleared, acceptedCall, judge, outcomeOf, Promise}
-use Rattle.rules.specs.History.{Event, event, isAccepted, History, begun, refusing, accepting, addsTo, takesFrom, commands, acceptedOf, isNew, hasValue, givesOut, isStart, starts, since, often, added, taken}
+use Rattle.rules.specs.Tables.{Store, state, holdsOf, finish, empty}
+use Rattle.rules.specs.Commands.{isNew, accepted, firstFree, after, valueOf, nextStore}
+use Rattle.rules.specs.Calls.{Call, start, does, check, Areas, Reply, answered, saw, checked, Outcome, doneBy, acceptedBy, cleared, acceptedCall, judge, outcomeOf}
+use Rattle.rules.specs.History.{Event, event, isAccepted, History, begun, refusing, accepting, addsTo, takesFrom, commands, acceptedOf, hasValue}
+use Rattle.rules.specs.History.{givesOut, isStart, starts, since, often, added, taken}
 use Rattle.rules.specs.declared.Command.{Command}
 use Rattle.rules.specs.declared.Command.the-variants.{New, Set, Freeze, Acquire, Release, Bin, Look}
 use Rattle.rules.specs.declared.Answer.the-variants.{Done, Refused}
-use Rattle.rules.specs.declared.Seen.the-variants.{Piece, Unseen}
-use Rattle.rules.specs.declared.Checked.the-variants.{Yes, No, Unchecked}
 use Rattle.laws.specs.Tests.{and-left, and-right, or-left, or-cases}
-use Rattle.laws.specs.Below.{T-dec, pick-true, pick-false, Lowest, lowest-is}
+use Rattle.laws.specs.Below.{T-dec, pick-true, pick-false}
 use Rattle.laws.specs.Sound.{Good, sound→entries}
 use Rattle.laws.specs.Passes.{Passes, passes, free-of}
 use Rattle.laws.specs.Commands.{first-free-state, after-n, Ok, next-ok}
-use Rattle.laws.specs.Calls.{accepted-judged, accepted-outcome, Accepted, judged, empty-ok}
+use Rattle.laws.specs.Calls.{accepted-judged, accepted-outcome, judged, empty-ok}
 use Rattle.laws.specs.Held.{after-holds}
 
 -- ---- what one call adds to the history
@@ -62,7 +59,7 @@ refused-quiet p c o t = not-T (givesOut p (event c o) or starts (event c o)) (λ
 
 -- ---- the store after a history
 
-pub record Stands (n : ℕ) (h : List Event) (s : Store) : Type 0 where
+pub record Follows (n : ℕ) (h : List Event) (s : Store) : Type 0 where
   pub ok : Ok s
   pub size : s .base .n ≡ n
   pub held : (p : ℕ) → p < n → holdsOf (s .base) p + taken p h ≡ added p h
@@ -89,19 +86,22 @@ on-held p x y e h t z i =
     omega arith
 
 -- after an accepted start
-start-stands : (n : ℕ) → n ≤ most → (h : List Event) (a : Areas) → a .store .base .n ≡ n → Stands n (event start (acceptedCall (cleared a start) start) ∷ h) (acceptedCall (cleared a start) start .areas .store)
+start-follows : (n : ℕ) → n ≤ most → (h : List Event) (a : Areas) → a .store .base .n ≡ n
+    → Follows n (event start (acceptedCall (cleared a start) start) ∷ h) (acceptedCall (cleared a start) start .areas .store)
 unfolding acceptedCall cleared
-start-stands n m h a e = record {
+start-follows n m h a e = record {
   ok = empty-ok (a .store .base .n) (subst (λ (x : ℕ). x ≤ most) (sym e) m);
   size = unfold empty in e;
-  held = λ p l. anew-held p (holdsOf (empty (a .store .base .n) .base) p) (event start (acceptedCall (cleared a start) start)) h (anew p) (empty-holds (a .store .base .n) p (subst (λ (y : ℕ). p < y) (sym e) l));
+  held =
+      λ p l. anew-held p (holdsOf (empty (a .store .base .n) .base) p) (event start (acceptedCall (cleared a start) start)) h (anew p)
+      (empty-holds (a .store .base .n) p (subst (λ (y : ℕ). p < y) (sym e) l));
 }
   where
     anew : (p : ℕ) → T (givesOut p (event start (acceptedCall (cleared a start) start)) or starts (event start (acceptedCall (cleared a start) start)))
     anew p = unfold givesOut starts commands isAccepted in tt
 
--- after an accepted command: `c` on the store s that stands
-module _ (n : ℕ) (h : List Event) (s : Store) (st : Stands n h s) (o : Outcome) where
+-- after an accepted command: `c` on the store s that follows
+module _ (n : ℕ) (h : List Event) (s : Store) (st : Follows n h s) (o : Outcome) where
   base-good : Good (s .base)
   base-good = sound→entries s (st .ok .sound) .good
 
@@ -118,7 +118,9 @@ module _ (n : ℕ) (h : List Event) (s : Store) (st : Stands n h s) (o : Outcome
       begins u = unfold starts in u
 
       silent : T (not (givesOut p (event (does c) o) or starts (event (does c) o)))
-      silent = not-T (givesOut p (event (does c) o) or starts (event (does c) o)) (λ u. ⊎-elim (λ x. T-not (givesOut p (event (does c) o)) q x) begins (or-cases (givesOut p (event (does c) o)) (starts (event (does c) o)) u))
+      silent =
+          not-T (givesOut p (event (does c) o) or starts (event (does c) o))
+          (λ u. ⊎-elim (λ x. T-not (givesOut p (event (does c) o)) q x) begins (or-cases (givesOut p (event (does c) o)) (starts (event (does c) o)) u))
 
       one : (f : Command → Bool) → acceptedOf f (event (does c) o) ≡ f c
       one f = unfold acceptedOf commands in (go (isAccepted (o .reply)) t)
@@ -144,7 +146,7 @@ module _ (n : ℕ) (h : List Event) (s : Store) (st : Stands n h s) (o : Outcome
       omega arith
     where
       is-free : state (s .base) (firstFree (s .base)) ≡ 0
-      is-free = first-free-state (s .base) (ps .full)
+      is-free = first-free-state (s .base) ps
 
   pub command-held : (c : Command) → Passes (s .base) c → o .reply ≡ acceptedBy s c → T (isAccepted (o .reply)) → (p : ℕ) → p < n
       → holdsOf (after (s .base) c) p + taken p (event (does c) o ∷ h) ≡ added p (event (does c) o ∷ h)
@@ -153,7 +155,8 @@ module _ (n : ℕ) (h : List Event) (s : Store) (st : Stands n h s) (o : Outcome
       gives : T (givesOut p (event (does c) o)) → holdsOf (after (s .base) c) p + taken p (event (does c) o ∷ h) ≡ added p (event (does c) o ∷ h)
       gives u = new c ps r u
         where
-          new : (c : Command) → Passes (s .base) c → o .reply ≡ acceptedBy s c → T (givesOut p (event (does c) o)) → holdsOf (after (s .base) c) p + taken p (event (does c) o ∷ h) ≡ added p (event (does c) o ∷ h)
+          new : (c : Command) → Passes (s .base) c → o .reply ≡ acceptedBy s c → T (givesOut p (event (does c) o))
+              → holdsOf (after (s .base) c) p + taken p (event (does c) o ∷ h) ≡ added p (event (does c) o ∷ h)
           new New ps r u =
               anew-held p (holdsOf (after (s .base) New) p) (event (does New) o) h (or-left (givesOut p (event (does New) o)) (starts (event (does New) o)) u)
               (given ps p l (value u))
@@ -167,17 +170,18 @@ module _ (n : ℕ) (h : List Event) (s : Store) (st : Stands n h s) (o : Outcome
           new (Bin q) ps r u = unfold givesOut commands in (absurd u)
           new (Look q) ps r u = unfold givesOut commands in (absurd u)
 
-  pub command-stands : (c : Command) → Passes (s .base) c → o .reply ≡ acceptedBy s c → T (isAccepted (o .reply)) → o .areas .store ≡ nextStore s c
-      → Stands n (event (does c) o ∷ h) (o .areas .store)
-  command-stands c ps r t e = subst (Stands n (event (does c) o ∷ h)) (sym e) (record {
+  pub command-follows : (c : Command) → Passes (s .base) c → o .reply ≡ acceptedBy s c → T (isAccepted (o .reply)) → o .areas .store ≡ nextStore s c
+      → Follows n (event (does c) o ∷ h) (o .areas .store)
+  command-follows c ps r t e = subst (Follows n (event (does c) o ∷ h)) (sym e) (record {
     ok = next-ok s c (st .ok) ps;
     size = unfold nextStore finish in (after-n (s .base) (st .ok .sized .base) base-good c ∙ st .size);
     held = λ p l. unfold nextStore finish in (command-held c ps r t p l);
   })
 
   -- a call that is refused, or a check, leaves all as it was
-  pub still-stands : (c : Call) → ((p : ℕ) → T (not (givesOut p (event c o) or starts (event c o)))) → ((f : Command → Bool) → T (not (acceptedOf f (event c o)))) → Stands n (event c o ∷ h) s
-  still-stands c q a = record {
+  pub still-follows : (c : Call) → ((p : ℕ) → T (not (givesOut p (event c o) or starts (event c o)))) → ((f : Command → Bool) → T (not (acceptedOf f (event c o))))
+      → Follows n (event c o ∷ h) s
+  still-follows c q a = record {
     ok = st .ok;
     size = st .size;
     held = λ p l. on-held p (holdsOf (s .base) p) (holdsOf (s .base) p) (event c o) h (q p)
@@ -192,25 +196,27 @@ module _ (n : ℕ) (h : List Event) (s : Store) (st : Stands n h s) (o : Outcome
       zero-of f = off (acceptedOf f (event c o)) (a f)
 
 -- After any history the store is sound and its holds are what the history says
-pub stands : (n : ℕ) → n ≤ most → {h : List Event} {s : Store} → History n h s → Stands n h s
+pub follows : (n : ℕ) → n ≤ most → {h : List Event} {s : Store} → History n h s → Follows n h s
 unfolding acceptedCall cleared
-stands n m begun = record { ok = empty-ok n m; size = unfold empty in refl; held = λ p l. none p (empty-holds n p l) }
+follows n m begun = record { ok = empty-ok n m; size = unfold empty in refl; held = λ p l. none p (empty-holds n p l) }
   where
     none : (p : ℕ) → holdsOf (empty n .base) p ≡ 0 → holdsOf (empty n .base) p + taken p [] ≡ added p []
     none p e = unfold taken added since often in (omega arith)
-stands n m (refusing {h = h} {s = s} c a o r p t) =
-    still-stands n h s (stands n m r) o c (λ q. refused-quiet q c o t) (λ f. not-T (acceptedOf f (event c o)) (λ u. T-not (isAccepted (o .reply)) t (unfold acceptedOf in (and-left (isAccepted (o .reply)) (commands f c) u))))
-stands n m (accepting {h = h} c a o r p t) = go c (stands n m r) (accepted-judged a c (subst (λ (x : Outcome). T (isAccepted (x .reply))) (p .exact) t)) (p .exact) t
+follows n m (refusing {h = h} {s = s} c a o r p t) =
+    still-follows n h s (follows n m r) o c (λ q. refused-quiet q c o t)
+    (λ f. not-T (acceptedOf f (event c o)) (λ u. T-not (isAccepted (o .reply)) t (unfold acceptedOf in (and-left (isAccepted (o .reply)) (commands f c) u))))
+follows n m (accepting {h = h} c a o r p t) = go c (follows n m r) (accepted-judged a c (subst (λ (x : Outcome). T (isAccepted (x .reply))) (p .exact) t)) (p .exact) t
   where
-    go : (c : Call) → Stands n h (a .store) → judge a c ≡ accepted → o ≡ outcomeOf a c → T (isAccepted (o .reply)) → Stands n (event c o ∷ h) (o .areas .store)
-    go start st j e t = subst (λ (x : Outcome). Stands n (event start x ∷ h) (x .areas .store)) (sym (e ∙ accepted-outcome a start j)) (start-stands n m h a (st .size))
+    go : (c : Call) → Follows n h (a .store) → judge a c ≡ accepted → o ≡ outcomeOf a c → T (isAccepted (o .reply)) → Follows n (event c o ∷ h) (o .areas .store)
+    go start st j e t = subst (λ (x : Outcome). Follows n (event start x ∷ h) (x .areas .store)) (sym (e ∙ accepted-outcome a start j)) (start-follows n m h a (st .size))
     go (does c) st j e t =
         let x : o ≡ acceptedCall (cleared a (does c)) (does c) = e ∙ accepted-outcome a (does c) j in
         let reply : o .reply ≡ acceptedBy (a .store) c = ap (λ (y : Outcome). y .reply) x in
         let store : o .areas .store ≡ nextStore (a .store) c = ap (λ (y : Outcome). y .areas .store) x in
-        command-stands n h (a .store) st o c (passes (a .store .base) c (judged a c j .verdict)) reply t store
+        command-follows n h (a .store) st o c (passes (a .store .base) c (judged a c j .verdict)) reply t store
     go check st j e t =
         let x : o ≡ acceptedCall (cleared a check) check = e ∙ accepted-outcome a check j in
         let same : o .areas .store ≡ a .store = ap (λ (y : Outcome). y .areas .store) x in
-        subst (Stands n (event check o ∷ h)) (sym same)
-        (still-stands n h (a .store) st o check (λ q. unfold givesOut starts commands in tt) (λ f. not-T (acceptedOf f (event check o)) (λ u. unfold acceptedOf commands in (absurd (and-right (isAccepted (o .reply)) false u)))))
+        subst (Follows n (event check o ∷ h)) (sym same)
+        (still-follows n h (a .store) st o check (λ q. unfold givesOut starts commands in tt)
+        (λ f. not-T (acceptedOf f (event check o)) (λ u. unfold acceptedOf commands in (absurd (and-right (isAccepted (o .reply)) false u)))))

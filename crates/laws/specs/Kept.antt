@@ -1,20 +1,20 @@
 -- Under exact leaders and counts, every frozen piece is kept exactly if no group's count is 0.
-use mathlib.Core.Path.{_≡_, refl, sym, ap, _∙_, subst}
-use mathlib.Core.Logic.{_⊎_, inl, inr, ⊎-elim, _↔_, _≢_}
+use mathlib.Core.Path.{_≡_, refl, sym, ap, subst}
+use mathlib.Core.Logic.{_⊎_, inl, inr, ⊎-elim, _↔_}
 use mathlib.Core.Bool.{Bool, true, false, not}
-use Prim.Native.Nat.{ℕ, zero, suc, _+_, _≤_, _<_, zero-le}
+use Prim.Native.Nat.{ℕ, zero, suc, _+_, _≤_, _<_}
 use native.Mathlib.Nat.{not-suc-le-zero}
 use native.Mathlib.Decide.{ℕ-discrete}
 use native.Mathlib.Omega.{arith}
 use lib.Dec.{T, T-not, not-T}
 use Rattle.rules.specs.Tests.{_or_, _&_, onlyIf}
 use Rattle.rules.specs.Below.{sum}
-use Rattle.rules.specs.Reach.{Reach, here, chain, Link}
+use Rattle.rules.specs.Reach.{here, chain, Link}
 use Rattle.rules.specs.Tables.{Base, isLive, isDraft, isFrozen, linkAt, holdsOf, inGroup, leaderOf, places, countOf}
-use Rattle.rules.specs.Words.{Draft, Frozen, Live, Reaches, Group, Root, Kept}
+use Rattle.rules.specs.Words.{Frozen, Live, Reaches, Group, Root, Kept}
 use Rattle.laws.specs.Tests.{or-left, or-right, and-both}
 use Rattle.laws.specs.Below.{T-dec}
-use Rattle.laws.specs.Words.{trans, →inGroup, inGroup→, →isDraft, →isFrozen}
+use Rattle.laws.specs.Words.{→inGroup, inGroup→, →isDraft, →isFrozen}
 use Rattle.laws.specs.Counts.{all-kept}
 
 -- a term is at most its sum
@@ -53,7 +53,8 @@ module _ (b : Base) where
       let inner : ℕ → ℕ = λ j. onlyIf (inGroup b p (linkAt b r j)) 1 in
       let f : ℕ → ℕ = λ s. onlyIf (isLive b s & not (inGroup b p s)) (sum (λ j. onlyIf (inGroup b p (linkAt b s j)) 1) 4) in
       let x = sum-term f (b .n) r (k .from) in
-      let y : f r ≡ sum inner 4 = onlyIf-true (isLive b r & not (inGroup b p r)) (sum inner 4) (and-both (isLive b r) (not (inGroup b p r)) (live-test r l) (not-T (inGroup b p r) (λ t. out (inGroup→ b p r t)))) in
+      let y : f r ≡ sum inner 4 = onlyIf-true (isLive b r & not (inGroup b p r)) (sum inner 4)
+      (and-both (isLive b r) (not (inGroup b p r)) (live-test r l) (not-T (inGroup b p r) (λ t. out (inGroup→ b p r t)))) in
       let z = sum-term inner 4 (k .place) (k .inside) in
       let w : inner (k .place) ≡ 1 = onlyIf-true (inGroup b p (linkAt b r (k .place))) 1 (subst (λ (t : ℕ). T (inGroup b p t)) (sym (k .names)) (→inGroup b p q h g)) in
       omega arith

@@ -1,9 +1,11 @@
 pub mod Tests
+pub mod Numbers
 pub mod Below
 pub mod Reach
 pub mod Words
 pub mod Sound
 pub mod Settle
+pub mod Rows
 pub mod Passes
 pub mod Edits
 pub mod Commands
@@ -18,3 +20,7 @@ pub mod History
 pub mod Freed
 pub mod Demand3
 pub mod Decided
+pub mod Values
+pub mod Calling
+pub mod Looked
+pub mod Visible

@@ -1,49 +1,66 @@
--- An accepted command passes each test, and what the tests say of the piece that it names.
+-- An accepted command passes each row of its refusals, and what the rows say of the piece that it names.
 use mathlib.Core.Path.{_≡_}
 use mathlib.Core.Logic.{_⊎_, inl, inr}
 use mathlib.Core.Bool.{Bool, true, false, not}
-use mathlib.Core.List.{List, _∷_}
-use Prim.Native.Nat.{ℕ, _-_, _<_}
+use mathlib.Core.List.{List, [], _∷_}
+use Prim.Native.Nat.{ℕ, zero, suc, _<_}
 use native.Mathlib.Omega.{arith}
 use lib.Dec.{T, T-not, not-T, eqb}
-use Rattle.rules.specs.Tests.{_or_}
+use lib.ListN.{length}
+use Rattle.rules.specs.Tests.{_or_, pick}
 use Rattle.rules.specs.Below.{every, any}
 use Rattle.laws.specs.Below.{T-dec, →every, some→, →some}
 use Rattle.rules.specs.Tables.{Base, state, isFree, isDraft, isFrozen}
 use Rattle.rules.specs.Words.{Live, FreeWell, DraftWell, FrozenWell, Well, wfree, wdraft, wfrozen}
 use Rattle.laws.specs.Words.{eqb-of, →isDraft, →isFrozen}
-use Rattle.rules.specs.Commands.{accepted, firstOf, wrongNumber, namesFree, wrongState, atLimit, notHeld, linked, full, refusals, verdict}
+use Rattle.rules.specs.Commands.{accepted, firstOf, refusals, verdict}
+use Rattle.rules.specs.Calls.{numberOf}
 use Rattle.rules.specs.declared.Refusal.{Refusal}
 use Rattle.rules.specs.declared.Command.{Command}
 
--- ---- an accepted call passes each test
+-- ---- rows of refusals
+
+-- whether the row for r applies
+unfoldable pub applies : Refusal → List (Bool × Refusal) → Bool
+applies r [] = false
+applies r (row ∷ rows) = pick (eqb (numberOf r) (numberOf (row .1))) (row .0) (applies r rows)
+
+-- none of the first i rows applies
+abbrev pub Passed : ℕ → List (Bool × Refusal) → Type 0
+Passed zero rows = Unit {0}
+Passed (suc i) [] = Unit {0}
+Passed (suc i) (row ∷ rows) = T (not (row .0)) × Passed i rows
 
 pub first-accepted : (t : Bool) (r : Refusal) (rs : List (Bool × Refusal)) → firstOf ((t, r) ∷ rs) ≡ accepted → T (not t) × (firstOf rs ≡ accepted)
 unfolding firstOf
 first-accepted true r rs e = absurd (let z : _≡_ {A = ℕ} 0 1 = cc e in omega arith)
 first-accepted false r rs e = (tt, e)
 
+passed-all : (rows : List (Bool × Refusal)) → firstOf rows ≡ accepted → Passed (length rows) rows
+passed-all [] e = tt
+passed-all (row ∷ rows) e = let x = first-accepted (row .0) (row .1) rows e in (x .0, passed-all rows (x .1))
+
+none-applies : (rows : List (Bool × Refusal)) → Passed (length rows) rows → (r : Refusal) → T (not (applies r rows))
+unfolding applies
+none-applies [] p r = tt
+none-applies (row ∷ rows) p r = go (eqb (numberOf r) (numberOf (row .1))) (row .0) (applies r rows) (p .0) (none-applies rows (p .1) r)
+  where
+    go : (b x y : Bool) → T (not x) → T (not y) → T (not (pick b x y))
+    go true x y h k = h
+    go false x y h k = k
+
+-- ---- an accepted command
+
 -- no refusal applies to the command
 pub record Passes (b : Base) (c : Command) : Type 0 where
-  pub number : T (not (wrongNumber b c))
-  pub free : T (not (namesFree b c))
-  pub state : T (not (wrongState b c))
-  pub limit : T (not (atLimit b c))
-  pub held : T (not (notHeld b c))
-  pub linked : T (not (linked b c))
-  pub full : T (not (full b c))
+  pub rows : Passed (length (refusals b c)) (refusals b c)
+
+pub not-by : {b : Base} {c : Command} → Passes b c → (r : Refusal) → T (not (applies r (refusals b c)))
+not-by {b} {c} p r = none-applies (refusals b c) (p .rows) r
 
 pub passes : (b : Base) (c : Command) → verdict b c ≡ accepted → Passes b c
-unfolding verdict refusals
-passes b c e =
-    let r3 = first-accepted (wrongNumber b c) _ _ e in
-    let r4 = first-accepted (namesFree b c) _ _ (r3 .1) in
-    let r5 = first-accepted (wrongState b c) _ _ (r4 .1) in
-    let r6 = first-accepted (atLimit b c) _ _ (r5 .1) in
-    let r7 = first-accepted (notHeld b c) _ _ (r6 .1) in
-    let r8 = first-accepted (linked b c) _ _ (r7 .1) in
-    let r9 = first-accepted (full b c) _ _ (r8 .1) in
-    record { number = r3 .0; free = r4 .0; state = r5 .0; limit = r6 .0; held = r7 .0; linked = r8 .0; full = r9 .0 }
+unfolding verdict
+passes b c e = record { rows = passed-all (refusals b c) e }
 
 -- ---- small helpers on tests
 

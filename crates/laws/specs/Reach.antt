@@ -1,14 +1,14 @@
 -- `reachb` decides `Reach`.
-use mathlib.Core.Path.{_≡_, refl, sym, ap, ap₂, _∙_, subst}
-use mathlib.Core.Logic.{_⊎_, inl, inr, _≢_}
-use mathlib.Core.Bool.{Bool, true, false, not}
+use mathlib.Core.Path.{_≡_, refl, sym, ap, _∙_, subst}
+use mathlib.Core.Logic.{_⊎_, inl, inr}
+use mathlib.Core.Bool.{Bool, true, false}
 use mathlib.Core.List.{List, [], _∷_}
-use Prim.Native.Nat.{ℕ, zero, suc, _+_, _*_, _≤_, _<_, zero-le, suc-le-suc}
+use Prim.Native.Nat.{ℕ, zero, suc, _+_, _≤_, _<_, zero-le, suc-le-suc}
 use native.Mathlib.Nat.{le-of-suc-le-suc, not-suc-le-zero, add-zero, add-suc, suc-add, zero-add, le-of-eq}
 use native.Mathlib.Decide.{ℕ-discrete}
 use native.Mathlib.Omega.{arith}
-use lib.Dec.{T, eqb, ltb, leb, eqb→eq, eqb-refl}
-use lib.ListN.{length, getD, replicate, length-replicate, getD-replicate, set, length-set, List·getD-eq-default}
+use lib.Dec.{T}
+use lib.ListN.{length, getD, replicate, length-replicate, getD-replicate, set, length-set}
 use lib.Seq.{getD-set-same, getD-set-other}
 use Rattle.rules.specs.Tests.{_or_}
 use Rattle.laws.specs.Tests.{or-left, or-right, or-cases}
@@ -90,7 +90,8 @@ module _ (at : ℕ → ℕ → ℕ) where
   closed zero m h = none-left 0 m m (omega arith)
   closed (suc k) m h = go (closed k (widen at m)) (grows 0 m m)
     where
-      go : (unmarked (widen at m) ≤ k → widen at (close at k (widen at m)) ≡ close at k (widen at m)) → (widenFrom at 0 m m ≡ m) ⊎ (unmarked (widenFrom at 0 m m) < unmarked m) → widen at (close at k (widen at m)) ≡ close at k (widen at m)
+      go : (unmarked (widen at m) ≤ k → widen at (close at k (widen at m)) ≡ close at k (widen at m))
+          → (widenFrom at 0 m m ≡ m) ⊎ (unmarked (widenFrom at 0 m m) < unmarked m) → widen at (close at k (widen at m)) ≡ close at k (widen at m)
       go ih (inl e) = let c : close at k (widen at m) ≡ m = ap (close at k) e ∙ closed-stays k m e in ap (widen at) c ∙ e ∙ sym c
       go ih (inr f) = ih (omega arith)
 

@@ -1,27 +1,25 @@
 -- Freeing every frozen piece that is no longer kept leaves a good base.
-use mathlib.Core.Path.{_≡_, refl, sym, ap, ap₂, _∙_, subst}
-use mathlib.Core.Logic.{_⊎_, inl, inr, ⊎-elim, _↔_, _≢_}
-use mathlib.Core.Bool.{Bool, true, false, not}
-use mathlib.Core.List.{List, [], _∷_}
-use Prim.Native.Nat.{ℕ, zero, suc, _+_, _*_, _/_, _≤_, _<_, zero-le, suc-le-suc}
-use native.Mathlib.Decide.{ℕ-discrete}
+use mathlib.Core.Path.{_≡_, refl, sym, ap, _∙_, subst}
+use mathlib.Core.Logic.{_⊎_, inl, inr, ⊎-elim}
+use mathlib.Core.Bool.{Bool, not}
+use Prim.Native.Nat.{ℕ, _+_, _*_, _/_, _≤_, _<_}
 use native.Mathlib.Omega.{arith}
-use lib.Dec.{T, T-not, not-T, eqb}
-use lib.ListN.{length, getD}
+use lib.Dec.{T, T-not, not-T}
+use lib.ListN.{getD}
 use Rattle.rules.specs.Tests.{_or_, _&_, pick}
-use Rattle.laws.specs.Tests.{or-left, or-right, or-cases, and-both, and-left, and-right}
+use Rattle.laws.specs.Tests.{and-both, and-right}
 use Rattle.rules.specs.Limits.{none}
-use Rattle.rules.specs.Below.{table}
-use Rattle.laws.specs.Below.{T-dec, pick-true, pick-false, getD-table, length-table}
+use Rattle.laws.specs.Below.{T-dec, pick-true, pick-false, getD-table}
 use Rattle.rules.specs.Reach.{Reach, here, chain, Link}
-use Rattle.rules.specs.Tables.{Base, Store, state, isFrozen, linkAt, holdsOf, isKept}
-use Rattle.rules.specs.Words.{Draft, Frozen, Live, Reaches, Root, Kept, FreeWell, DraftWell, FrozenWell, Well, wfree, wdraft, wfrozen, SizedBase}
-use Rattle.laws.specs.Words.{trans, end-below, root-below, kept-below, isFrozen→, →isFrozen, not-frozen, isKept→, →isKept}
+use Rattle.rules.specs.Tables.{Base, state, isFrozen, linkAt, holdsOf, isKept}
+use Rattle.rules.specs.Words.{Draft, Frozen, Live, Root, Kept, FreeWell, Well, wfree, wdraft, wfrozen}
+use Rattle.laws.specs.Words.{trans, →isFrozen, isKept→, →isKept}
 use Rattle.laws.specs.Sound.{Good}
 use Rattle.rules.specs.Commands.{freeAll, gone}
 
 -- a chain is carried over, link by link, with a fact P that holds along it
-pub carry : {n m : ℕ} {at bt : ℕ → ℕ → ℕ} (P : ℕ → Type 0) → ((p q : ℕ) → P p → Link n at p q → Link m bt p q × P q) → {p q : ℕ} → P p → Reach n at p q → Reach m bt p q
+pub carry : {n m : ℕ} {at bt : ℕ → ℕ → ℕ} (P : ℕ → Type 0) → ((p q : ℕ) → P p → Link n at p q → Link m bt p q × P q) → {p q : ℕ} → P p → Reach n at p q
+    → Reach m bt p q
 carry P f x here = here
 carry P f {p = p} x (chain {q = q} l r) = let y = f p q x l in chain (y .0) (carry P f (y .1) r)
 
@@ -88,7 +86,9 @@ module _ (e : Base) (f : ℕ → Bool) where
       go k i (inr (inr d)) = inr (inr (frozen-kept (linkAt e p k) (n k i (inr d)) d))
   kept-well p h t n (wfrozen w) = wfrozen (record {
     is = state-kept p h t ∙ w .is;
-    links = λ k i. subst (λ (x : ℕ). (x ≡ none) ⊎ Frozen (freeAll e f) x) (sym (link-kept p k h i t)) (⊎-elim (λ x. inl x) (λ d. inr (frozen-kept (linkAt e p k) (n k i (inr d)) d)) (w .links k i));
+    links =
+        λ k i. subst (λ (x : ℕ). (x ≡ none) ⊎ Frozen (freeAll e f) x) (sym (link-kept p k h i t))
+        (⊎-elim (λ x. inl x) (λ d. inr (frozen-kept (linkAt e p k) (n k i (inr d)) d)) (w .links k i));
     holds = subst (λ (x : ℕ). x ≤ 1000) (sym (holds-kept p h t)) (w .holds);
   })
 
@@ -119,7 +119,8 @@ module _ (e : Base) (most : e .n ≤ 1024) (wells : (p : ℕ) → p < e .n → W
 
       root : Root e (k .root) → Root (freeAll e (gone e)) (k .root)
       root (inl d) = inl (draft-kept e (gone e) (k .root) (not-gone (k .root) self) d)
-      root (inr g) = inr (frozen-kept e (gone e) (k .root) (not-gone (k .root) self) (g .0), subst (λ (x : ℕ). 0 < x) (sym (holds-kept e (gone e) (k .root) (g .0 .below) (not-gone (k .root) self))) (g .1))
+      root (inr g) =
+          inr (frozen-kept e (gone e) (k .root) (not-gone (k .root) self) (g .0), subst (λ (x : ℕ). 0 < x) (sym (holds-kept e (gone e) (k .root) (g .0 .below) (not-gone (k .root) self))) (g .1))
 
       on : (a b : ℕ) → Kept e a → Link (e .n) (linkAt e) a b → Link (freeAll e (gone e) .n) (linkAt (freeAll e (gone e))) a b × Kept e b
       on a b ka l = (
@@ -140,5 +141,7 @@ module _ (e : Base) (most : e .n ≤ 1024) (wells : (p : ℕ) → p < e .n → W
   unfolding freeAll
   settled-good = record {
     wells = λ p h. ⊎-elim (λ g. wfree (freed-well e (gone e) p h g)) (λ g. kept-well e (gone e) p h g (names-stay p h g (wells p h)) (wells p h)) (T-dec (gone e p));
-    kept = λ p f. ⊎-elim (λ g. absurd (let a = freed-well e (gone e) p (f .below) g .is in let c = f .is in omega arith)) (λ g. settled-kept p (frozen-left p (f .below) (→isFrozen e p (sym (state-kept e (gone e) p (f .below) g) ∙ f .is)) g)) (T-dec (gone e p));
+    kept =
+        λ p f. ⊎-elim (λ g. absurd (let a = freed-well e (gone e) p (f .below) g .is in let c = f .is in omega arith))
+        (λ g. settled-kept p (frozen-left p (f .below) (→isFrozen e p (sym (state-kept e (gone e) p (f .below) g) ∙ f .is)) g)) (T-dec (gone e p));
   }

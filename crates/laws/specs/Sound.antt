@@ -1,25 +1,21 @@
 -- `isSound` decides `Sound`; sound tables are what their states, links and holds give.
-use mathlib.Core.Path.{_≡_, refl, sym, ap, ap₂, _∙_, subst}
-use mathlib.Core.Logic.{_⊎_, inl, inr, ⊎-elim, _↔_, _≢_}
+use mathlib.Core.Path.{_≡_, sym, _∙_, subst}
+use mathlib.Core.Logic.{_⊎_, inl, inr, ⊎-elim, _≢_}
 use mathlib.Core.Bool.{Bool, true, false, not}
-use mathlib.Core.List.{List, [], _∷_}
-use Prim.Native.Nat.{ℕ, zero, suc, _+_, _*_, _≤_, _<_, zero-le, suc-le-suc}
-use native.Mathlib.Nat.{le-antisymm}
+use Prim.Native.Nat.{ℕ, _<_}
 use native.Mathlib.Decide.{ℕ-discrete}
-use native.Mathlib.Omega.{arith}
-use lib.Dec.{T, T-not, not-T, eqb, ltb, leb, eqb→eq, eqb-refl, ltb→lt, lt→ltb, leb→le, le→leb}
-use lib.ListN.{length, getD}
+use lib.Dec.{T, T-not, eqb, ltb, leb, eqb→eq, ltb→lt, lt→ltb, leb→le, le→leb}
 use lib.Seq.{ext-getD}
-use Rattle.rules.specs.Tests.{_or_, _&_, pick, onlyIf}
+use Rattle.rules.specs.Tests.{_or_, _&_}
 use Rattle.laws.specs.Tests.{or-left, or-right, or-cases, and-both, and-left, and-right}
 use Rattle.rules.specs.Limits.{none}
-use Rattle.rules.specs.Below.{every, any, sum, table, lowest, list}
-use Rattle.laws.specs.Below.{T-dec, pick-true, pick-false, every→, →every, some→, →some, getD-table, length-table, Lowest, lowest-is}
-use Rattle.rules.specs.Reach.{Reach, here, chain, Link, reachb}
-use Rattle.laws.specs.Reach.{reachb→Reach, Reach→reachb, reachb-below}
-use Rattle.rules.specs.Tables.{Base, Store, state, isFree, isDraft, isFrozen, isLive, linkAt, holdsOf, reaches, inGroup, leaderOf, countOf, isRoot, isKept, leaderEntry, countEntry, finish, allFour, wellFree, wellDraft, wellFrozen, well, soundAt, isSound}
-use Rattle.rules.specs.Words.{Draft, Frozen, Live, Reaches, Group, Leader, Root, Kept, FreeWell, DraftWell, FrozenWell, Well, wfree, wdraft, wfrozen, leaderAt, countAt, CountRight, Piece, free, draft, frozen, Sound, SizedBase, Sized}
-use Rattle.laws.specs.Words.{eqb-of, neqb-of, trans, isDraft→, →isDraft, isFrozen→, →isFrozen, not-frozen, leaderOf-is, leader-one, isKept→, →isKept}
+use Rattle.rules.specs.Below.{every, table}
+use Rattle.laws.specs.Below.{T-dec, pick-true, pick-false, every→, →every, getD-table, length-table}
+use Rattle.rules.specs.Tables.{Base, Store, state, isFree, isDraft, isFrozen, isLive, linkAt, holdsOf, leaderOf, countOf}
+use Rattle.rules.specs.Tables.{isKept, leaderEntry, countEntry, finish, allFour, wellFree, wellDraft, wellFrozen, well, soundAt, isSound}
+use Rattle.rules.specs.Words.{Frozen, Live, Leader, Kept, FreeWell, DraftWell, FrozenWell, Well, wfree, wdraft, wfrozen}
+use Rattle.rules.specs.Words.{leaderAt, countAt, Piece, free, draft, frozen, Sound, Sized}
+use Rattle.laws.specs.Words.{eqb-of, neqb-of, isDraft→, →isDraft, isFrozen→, →isFrozen, not-frozen, leaderOf-is, leader-one, isKept→, →isKept}
 
 module _ (b : Base) where
   pub leaderEntry-frozen : (p : ℕ) → state b p ≡ 2 → leaderEntry b p ≡ leaderOf b p
@@ -131,12 +127,15 @@ module _ (b : Base) where
   unfolding wellFrozen isFrozen
   →wellFrozen p w =
       join3 (isFrozen b p) (allFour b p (λ x. eqb x none or ltb x (b .n) & isFrozen b x)) (leb (holdsOf b p) 1000) (eqb-of (w .is))
-      (→allFour p (λ x. eqb x none or ltb x (b .n) & isFrozen b x) (λ k h. →none-or (linkAt b p k) (isFrozen b) (Frozen b) (λ f. (f .below, →isFrozen b (linkAt b p k) (f .is))) (w .links k h)))
+      (→allFour p (λ x. eqb x none or ltb x (b .n) & isFrozen b x)
+      (λ k h. →none-or (linkAt b p k) (isFrozen b) (Frozen b) (λ f. (f .below, →isFrozen b (linkAt b p k) (f .is))) (w .links k h)))
       (le→leb (holdsOf b p) 1000 (w .holds))
 
   pub well→ : (p : ℕ) → T (well b p) → Well b p
   unfolding well
-  well→ p t = ⊎-elim (λ x. wfree (wellFree→ p x)) (λ y. ⊎-elim (λ x. wdraft (wellDraft→ p x)) (λ x. wfrozen (wellFrozen→ p x)) (or-cases (wellDraft b p) (wellFrozen b p) y)) (or-cases (wellFree b p) (wellDraft b p or wellFrozen b p) t)
+  well→ p t =
+      ⊎-elim (λ x. wfree (wellFree→ p x)) (λ y. ⊎-elim (λ x. wdraft (wellDraft→ p x)) (λ x. wfrozen (wellFrozen→ p x)) (or-cases (wellDraft b p) (wellFrozen b p) y))
+      (or-cases (wellFree b p) (wellDraft b p or wellFrozen b p) t)
 
   pub →well : (p : ℕ) → Well b p → T (well b p)
   unfolding well
@@ -158,7 +157,8 @@ module _ (s : Store) where
     pub leaders : (p : ℕ) → p < s .base .n → leaderAt s p ≡ leaderEntry (s .base) p
     pub counts : (p : ℕ) → p < s .base .n → countAt s p ≡ countEntry (s .base) p
 
-  sound→entry : (p : ℕ) → p < s .base .n → Piece s p → Well (s .base) p × (leaderAt s p ≡ leaderEntry (s .base) p) × (countAt s p ≡ countEntry (s .base) p) × (Frozen (s .base) p → Kept (s .base) p)
+  sound→entry : (p : ℕ) → p < s .base .n → Piece s p → Well (s .base) p × (leaderAt s p ≡ leaderEntry (s .base) p) × (countAt s p ≡ countEntry (s .base) p)
+      × (Frozen (s .base) p → Kept (s .base) p)
   sound→entry p h (free w l c) =
       let nf = not-frozen (s .base) p 0 (w .is) tt in
       (wfree w, l ∙ sym (leaderEntry-other (s .base) p nf), c ∙ sym (countEntry-other (s .base) p nf), λ f. absurd (T-not (isFrozen (s .base) p) nf (→isFrozen (s .base) p (f .is))))
@@ -181,7 +181,8 @@ module _ (s : Store) where
     counts = λ p h. sound→entry p h (sd p h) .2;
   }
 
-  entry→sound : (p : ℕ) → p < s .base .n → Well (s .base) p → leaderAt s p ≡ leaderEntry (s .base) p → countAt s p ≡ countEntry (s .base) p → (Frozen (s .base) p → Kept (s .base) p) → Piece s p
+  entry→sound : (p : ℕ) → p < s .base .n → Well (s .base) p → leaderAt s p ≡ leaderEntry (s .base) p → countAt s p ≡ countEntry (s .base) p
+      → (Frozen (s .base) p → Kept (s .base) p) → Piece s p
   entry→sound p h (wfree w) l c k =
       let nf = not-frozen (s .base) p 0 (w .is) tt in
       free w (l ∙ leaderEntry-other (s .base) p nf) (c ∙ countEntry-other (s .base) p nf)
@@ -205,16 +206,19 @@ module _ (s : Store) where
       let u = every→ (soundAt s) (s .base .n) t p h in
       let w = and-right (well (s .base) p) (eqb (leaderAt s p) (leaderEntry (s .base) p) & eqb (countAt s p) (countEntry (s .base) p) & (not (isFrozen (s .base) p) or isKept (s .base) p)) u in
       let v = split3 (s .base) (eqb (leaderAt s p) (leaderEntry (s .base) p)) (eqb (countAt s p) (countEntry (s .base) p)) (not (isFrozen (s .base) p) or isKept (s .base) p) w in
-      entry→sound p h (well→ (s .base) p (and-left (well (s .base) p) (eqb (leaderAt s p) (leaderEntry (s .base) p) & eqb (countAt s p) (countEntry (s .base) p) & (not (isFrozen (s .base) p) or isKept (s .base) p)) u))
+      entry→sound p h (well→ (s .base) p (and-left (well (s .base) p)
+      (eqb (leaderAt s p) (leaderEntry (s .base) p) & eqb (countAt s p) (countEntry (s .base) p) & (not (isFrozen (s .base) p) or isKept (s .base) p)) u))
       (eqb→eq (leaderAt s p) (leaderEntry (s .base) p) (v .0)) (eqb→eq (countAt s p) (countEntry (s .base) p) (v .1))
-      (λ f. ⊎-elim (λ x. absurd (T-not (isFrozen (s .base) p) x (→isFrozen (s .base) p (f .is)))) (λ x. isKept→ (s .base) p x) (or-cases (not (isFrozen (s .base) p)) (isKept (s .base) p) (v .2)))
+      (λ f. ⊎-elim (λ x. absurd (T-not (isFrozen (s .base) p) x (→isFrozen (s .base) p (f .is)))) (λ x. isKept→ (s .base) p x)
+      (or-cases (not (isFrozen (s .base) p)) (isKept (s .base) p) (v .2)))
 
   pub →isSound : Sound s → T (isSound s)
   unfolding isSound soundAt
   →isSound sd =
       →every (soundAt s) (s .base .n) (λ p h.
       let e = sound→entry p h (sd p h) in
-      and-both (well (s .base) p) (eqb (leaderAt s p) (leaderEntry (s .base) p) & eqb (countAt s p) (countEntry (s .base) p) & (not (isFrozen (s .base) p) or isKept (s .base) p)) (→well (s .base) p (e .0))
+      and-both (well (s .base) p) (eqb (leaderAt s p) (leaderEntry (s .base) p) & eqb (countAt s p) (countEntry (s .base) p) &
+      (not (isFrozen (s .base) p) or isKept (s .base) p)) (→well (s .base) p (e .0))
       (join3 (s .base) (eqb (leaderAt s p) (leaderEntry (s .base) p)) (eqb (countAt s p) (countEntry (s .base) p)) (not (isFrozen (s .base) p) or isKept (s .base) p) (eqb-of (e .1)) (eqb-of (e .2))
       (⊎-elim
       (λ f. or-right (not (isFrozen (s .base) p)) (isKept (s .base) p) (→isKept (s .base) p (e .3 (isFrozen→ (s .base) p h f))))

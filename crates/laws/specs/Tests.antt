@@ -1,4 +1,5 @@
 -- The laws of the tests: what a true one says of its parts.
+use mathlib.Core.Path.{_≡_, refl}
 use mathlib.Core.Logic.{_⊎_, inl, inr}
 use mathlib.Core.Bool.{Bool, true, false}
 use lib.Dec.{T}
@@ -27,3 +28,10 @@ and-left false b t = absurd t
 pub and-right : (a b : Bool) → T (a & b) → T b
 and-right true b t = t
 and-right false b t = absurd t
+
+-- two tests that pass together are the same
+pub same-test : (a b : Bool) → (T a → T b) → (T b → T a) → a ≡ b
+same-test true true f g = refl
+same-test true false f g = absurd (f tt)
+same-test false true f g = absurd (g tt)
+same-test false false f g = refl

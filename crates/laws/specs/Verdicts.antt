@@ -7,18 +7,13 @@ use lib.Dec.{T}
 use lib.ListN.{length, drop}
 use Rattle.rules.specs.Tests.{pick}
 use Rattle.rules.specs.Tables.{Base, Store}
-use Rattle.rules.specs.Commands.{Verdict, accepted, refused, firstOf, refusals, verdict, wrongNumber, namesFree, wrongState, atLimit, notHeld, linked, full, edit, settles, freedBy, goneList, nextStore}
+use Rattle.rules.specs.Commands.{Verdict, accepted, refused, firstOf, refusals, verdict, edit, settles, freedBy, goneList, nextStore}
 use Rattle.rules.specs.Calls.{Reply, Effect, effect, effected, effectOf, refusedBy, acceptedBy, listing, Did}
 use Rattle.rules.specs.declared.Refusal.{Refusal}
 use Rattle.rules.specs.declared.Refusal.the-variants.{Number, Free, State, Limit, NotHeld, Linked, Full}
 use Rattle.rules.specs.declared.Command.{Command}
-use Rattle.laws.specs.Passes.{Passes}
-
--- none of the first i rows applies
-abbrev pub Clear : ℕ → List (Bool × Refusal) → Type 0
-Clear zero rows = Unit {0}
-Clear (suc i) [] = Unit {0}
-Clear (suc i) (row ∷ rows) = T (not (row .0)) × Clear i rows
+use Rattle.rules.specs.declared.Command.the-variants.{New, Set, Freeze, Acquire, Release, Bin, Look}
+use Rattle.laws.specs.Passes.{applies, Passed, Passes}
 
 -- row i is for r, and applies
 abbrev pub Applies : ℕ → List (Bool × Refusal) → Refusal → Type 0
@@ -32,7 +27,7 @@ miss true r rows v h e = absurd h
 miss false r rows v h e = e
 
 -- the first that applies is given
-pub first-at : (i : ℕ) (rows : List (Bool × Refusal)) (r : Refusal) → Clear i rows → Applies i rows r → firstOf rows ≡ refused r
+pub first-at : (i : ℕ) (rows : List (Bool × Refusal)) (r : Refusal) → Passed i rows → Applies i rows r → firstOf rows ≡ refused r
 first-at i [] r c a = absurd a
 first-at zero (row ∷ rows) r c a = hit (row .0) (a .0) ∙ ap refused (a .1)
   where
@@ -42,47 +37,40 @@ first-at zero (row ∷ rows) r c a = hit (row .0) (a .0) ∙ ap refused (a .1)
 first-at (suc i) (row ∷ rows) r c a = miss (row .0) (row .1) rows (refused r) (c .0) (first-at i rows r (c .1) a)
 
 -- and none is given otherwise
-pub first-none : (rows : List (Bool × Refusal)) → Clear (length rows) rows → firstOf rows ≡ accepted
+pub first-none : (rows : List (Bool × Refusal)) → Passed (length rows) rows → firstOf rows ≡ accepted
 first-none [] c = unfold firstOf in refl
 first-none (row ∷ rows) c = miss (row .0) (row .1) rows accepted (c .0) (first-none rows (c .1))
 
-module _ (b : Base) (c : Command) where
-  pub accepts : Passes b c → verdict b c ≡ accepted
-  unfolding verdict refusals
-  accepts p = first-none (refusals b c) (p .number, (p .free, (p .state, (p .limit, (p .held, (p .linked, (p .full, tt)))))))
+-- a command that no row refuses is accepted, and one that a row is the first to refuse is refused by it
+pub accepts : {b : Base} {c : Command} → Passes b c → verdict b c ≡ accepted
+unfolding verdict
+accepts {b} {c} p = first-none (refusals b c) (p .rows)
 
-  pub by-number : T (wrongNumber b c) → verdict b c ≡ refused Number
-  unfolding verdict refusals
-  by-number t = first-at 0 (refusals b c) Number tt (t, refl)
+pub refuses : (i : ℕ) (b : Base) (c : Command) (r : Refusal) → Passed i (refusals b c) → Applies i (refusals b c) r → verdict b c ≡ refused r
+unfolding verdict
+refuses i b c r p a = first-at i (refusals b c) r p a
 
-  module _ (number : T (not (wrongNumber b c))) where
-    pub by-free : T (namesFree b c) → verdict b c ≡ refused Free
-    unfolding verdict refusals
-    by-free t = first-at 1 (refusals b c) Free (number, tt) (t, refl)
+-- ---- the table's order
 
-    module _ (free : T (not (namesFree b c))) where
-      pub by-state : T (wrongState b c) → verdict b c ≡ refused State
-      unfolding verdict refusals
-      by-state t = first-at 2 (refusals b c) State (number, (free, tt)) (t, refl)
+-- the rows of refusals rs, in their order, for what applies by rows
+unfoldable pub inOrder : List Refusal → List (Bool × Refusal) → List (Bool × Refusal)
+inOrder [] rows = []
+inOrder (r ∷ rs) rows = (applies r rows, r) ∷ inOrder rs rows
 
-      module _ (state : T (not (wrongState b c))) where
-        pub by-limit : T (atLimit b c) → verdict b c ≡ refused Limit
-        unfolding verdict refusals
-        by-limit t = first-at 3 (refusals b c) Limit (number, (free, (state, tt))) (t, refl)
+-- the refusals after UNSOUND, in the table's order
+abbrev pub table : List Refusal
+table = Number ∷ Free ∷ State ∷ Limit ∷ NotHeld ∷ Linked ∷ Full ∷ []
 
-        module _ (limit : T (not (atLimit b c))) where
-          pub by-held : T (notHeld b c) → verdict b c ≡ refused NotHeld
-          unfolding verdict refusals
-          by-held t = first-at 4 (refusals b c) NotHeld (number, (free, (state, (limit, tt)))) (t, refl)
-
-          module _ (held : T (not (notHeld b c))) where
-            pub by-linked : T (linked b c) → verdict b c ≡ refused Linked
-            unfolding verdict refusals
-            by-linked t = first-at 5 (refusals b c) Linked (number, (free, (state, (limit, (held, tt))))) (t, refl)
-
-            pub by-full : T (not (linked b c)) → T (full b c) → verdict b c ≡ refused Full
-            unfolding verdict refusals
-            by-full linked t = first-at 6 (refusals b c) Full (number, (free, (state, (limit, (held, (linked, tt)))))) (t, refl)
+-- the refusals of every command follow the table's order: going down the table gives the same verdict
+pub by-table : (b : Base) (c : Command) → verdict b c ≡ firstOf (inOrder table (refusals b c))
+unfolding verdict firstOf refusals inOrder applies
+by-table b New = refl
+by-table b (Set p k t) = refl
+by-table b (Freeze p) = refl
+by-table b (Acquire p) = refl
+by-table b (Release p) = refl
+by-table b (Bin p) = refl
+by-table b (Look p) = refl
 
 -- ---- what a command did
 

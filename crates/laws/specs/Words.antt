@@ -1,24 +1,20 @@
 -- The tests of `Defs` decide the statements of `Words`.
-use mathlib.Core.Path.{_≡_, refl, sym, ap, ap₂, _∙_, subst}
-use mathlib.Core.Logic.{_⊎_, inl, inr, ⊎-elim, _↔_, _≢_}
-use mathlib.Core.Bool.{Bool, true, false, not}
-use mathlib.Core.List.{List, [], _∷_}
-use Prim.Native.Nat.{ℕ, zero, suc, _+_, _*_, _≤_, _<_, zero-le, suc-le-suc}
+use mathlib.Core.Path.{_≡_, sym, subst}
+use mathlib.Core.Logic.{_⊎_, inl, inr, _≢_}
+use mathlib.Core.Bool.{not}
+use Prim.Native.Nat.{ℕ, _<_}
 use native.Mathlib.Nat.{le-antisymm}
-use native.Mathlib.Decide.{ℕ-discrete}
-use native.Mathlib.Omega.{arith}
-use lib.Dec.{T, T-not, not-T, eqb, ltb, leb, eqb→eq, eqb-refl, ltb→lt, lt→ltb, leb→le, le→leb}
-use lib.ListN.{length, getD}
-use lib.Seq.{ext-getD}
-use Rattle.rules.specs.Tests.{_or_, _&_, pick, onlyIf}
+use lib.Dec.{T, not-T, eqb, ltb, eqb→eq, eqb-refl, ltb→lt, lt→ltb}
+use Rattle.rules.specs.Tests.{_or_, _&_}
 use Rattle.laws.specs.Tests.{or-left, or-right, or-cases, and-both, and-left, and-right}
-use Rattle.rules.specs.Limits.{none}
-use Rattle.rules.specs.Below.{every, any, sum, table, lowest, list}
-use Rattle.laws.specs.Below.{T-dec, pick-true, pick-false, every→, →every, some→, →some, getD-table, length-table, Lowest, lowest-is}
-use Rattle.rules.specs.Reach.{Reach, here, chain, Link, reachb}
+use Rattle.rules.specs.Below.{lowest}
+use Rattle.laws.specs.Below.{some→, →some, lowest-is}
+use Rattle.rules.specs.Reach.{Reach, here, chain, reachb}
 use Rattle.laws.specs.Reach.{reachb→Reach, Reach→reachb, reachb-below}
-use Rattle.rules.specs.Tables.{Base, Store, state, isFree, isDraft, isFrozen, isLive, linkAt, holdsOf, reaches, inGroup, leaderOf, countOf, isRoot, isKept, leaderEntry, countEntry, finish, allFour, wellFree, wellDraft, wellFrozen, well, soundAt, isSound}
-use Rattle.rules.specs.Words.{Draft, Frozen, Live, Reaches, Group, Leader, Root, Kept, FreeWell, DraftWell, FrozenWell, Well, wfree, wdraft, wfrozen, leaderAt, countAt, CountRight, Piece, free, draft, frozen, Sound, SizedBase, Sized}
+use Rattle.rules.specs.Tables.{Base, state, isDraft, isFrozen, linkAt, holdsOf, reaches, inGroup, leaderOf, isRoot}
+use Rattle.rules.specs.Tables.{isKept}
+use Rattle.rules.specs.Words.{Draft, Frozen, Reaches, Group, Leader, Root, Kept}
+use Rattle.rules.specs.Words.{frozen}
 
 pub eqb-of : {m n : ℕ} → m ≡ n → T (eqb m n)
 eqb-of {m} e = subst (λ (k : ℕ). T (eqb m k)) e (eqb-refl m)
@@ -34,10 +30,6 @@ trans (chain l x) y = chain l (trans x y)
 pub end-below : {n : ℕ} {at : ℕ → ℕ → ℕ} {p q : ℕ} → p < n → Reach n at p q → q < n
 end-below h here = h
 end-below h (chain l x) = end-below (l .to) x
-
-pub start-below : {n : ℕ} {at : ℕ → ℕ → ℕ} {p q : ℕ} → q < n → Reach n at p q → p < n
-start-below h here = h
-start-below h (chain l x) = l .from
 
 module _ (b : Base) where
   pub isDraft→ : (p : ℕ) → p < b .n → T (isDraft b p) → Draft b p

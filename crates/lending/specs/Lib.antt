@@ -1,4 +1,5 @@
+pub mod Pasted
 pub mod Poured
-pub mod Last
+pub mod Filled
 pub mod Lent
 pub mod Begun

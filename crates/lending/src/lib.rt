@@ -1,17 +1,27 @@
 // A trace lent in memory: its output in the room lent, then zeros.
 ghost use mathlib.Core.Path.{_≡_};
-ghost use mathlib.Core.List.{[], _++_};
-ghost use Prim.Native.Nat.{_+_, _-_, _≤_};
+ghost use mathlib.Core.List.{List, _++_};
+ghost use Prim.Native.Nat.{ℕ, _+_, _-_, _≤_, _<_};
 ghost use lib.ListN.{length, take, replicate};
 ghost use lib.Seq.{paste};
-ghost use Rattle.rules.specs.Calls.{storeOf};
-ghost use Rattle.rules.specs.Trace.{linesFrom, outputOf, inRoom, lentTrace};
-ghost use Rattle.lines.specs.Ending.{Unended, Closed};
+ghost use Rattle.rules.specs.Tables.{storeOf};
+ghost use Rattle.rules.specs.Trace.{inRoom, lentTrace};
+ghost use Rattle.lines.specs.Ending.{Closed};
+ghost use Rattle.chunks.specs.Short.{enough};
 ghost use Rattle.reader.specs.Answered.{Stands};
+ghost use Rattle.answers.specs.Wrote.{longest};
 ghost use Rattle.lending.specs.Poured.{Poured};
-ghost use Rattle.lending.specs.Last.{Ended};
+ghost use Rattle.lending.specs.Filled.{Ends, Filled};
 ghost use Rattle.lending.specs.Lent.{given};
+use chunks::ENOUGH;
 use rules::Store;
+
+// A refused trace gives 2^63 and the refusal's number.
+const REFUSED: u64 = 1 << 63;
+
+const LONG: u64 = REFUSED + 10;
+
+const ROOM: u64 = REFUSED + 11;
 
 // Copies the first k bytes of out to a place of the room.
 fn copy(room: &mut [u8], at: usize, out: &[u8], k: usize)
@@ -38,11 +48,12 @@ fn clear_from(room: &mut [u8], at: usize)
     }
 }
 
-// How much of the room is written, or that the room is too small.
-struct Place {
-    full: bool,
-    written: usize,
-    from: usize,
+// How much of the room a text fills.
+enum Place {
+    // The room is too small for its output.
+    Full,
+    // So many bytes are written, and a number below which nothing is free.
+    Written { size: usize, from: usize },
 }
 
 // Answers a text whose last byte is 10 into the room behind what is written there, while it fits.
@@ -61,12 +72,15 @@ fn pour(
     room: &mut [u8],
     start: usize,
 ) -> Place
-    requires { ⌜ Stands n (storeOf n (now states) (now links) (now leaders) (now holds) (now counts)) (now list) (now work) from × Closed (now text) × (6208 ≤ length (now out)) × (start ≤ length (now room)) ⌝ }
-    ensures { λ r. ⌜ Poured n (storeOf n (now (states .entry)) (now (links .entry)) (now (leaders .entry)) (now (holds .entry)) (now (counts .entry))) (now (text .entry)) (now (room .entry)) start
-        (storeOf n (now (states .exit)) (now (links .exit)) (now (leaders .exit)) (now (holds .exit)) (now (counts .exit))) (now (list .exit)) (now (work .exit)) (now (room .exit)) (r .full) (r .written) (r .from) ⌝ }
+    requires { ⌜ Stands n (storeOf n (now states) (now links) (now leaders) (now holds) (now counts)) (now list) (now work) from
+        × Closed (now text) × (longest ≤ length (now out)) × (start ≤ length (now room)) ⌝ }
+    ensures { λ r. ⌜ Poured n (storeOf n (now (states .entry)) (now (links .entry)) (now (leaders .entry)) (now (holds .entry)) (now (counts .entry)))
+        (now (text .entry)) (now (room .entry)) start
+        (storeOf n (now (states .exit)) (now (links .exit)) (now (leaders .exit)) (now (holds .exit)) (now (counts .exit)))
+        (now (list .exit)) (now (work .exit)) (now (room .exit)) r ⌝ }
 {
     let mut at = 0;
-    let mut written = start;
+    let mut size = start;
     let mut low = from;
     while at < text.len() {
         let fed = reader::feed(
@@ -83,79 +97,39 @@ fn pour(
             out,
         );
         let k = fed.written;
-        if room.len() - written < k {
-            return Place {
-                full: true,
-                written: written,
-                from: low,
-            };
+        if room.len() - size < k {
+            return Place::Full;
         }
-        copy(room, written, out, k);
-        written += k;
+        copy(room, size, out, k);
+        size += k;
         at += fed.taken;
         low = fed.from;
     }
-    Place {
-        full: false,
-        written: written,
+    Place::Written {
+        size: size,
         from: low,
     }
 }
 
-// Answers a last line without its end, if it has a byte: its first 65 bytes, with byte 10 behind them.
-fn pour_last(
-    text: &[u8],
-    n: usize,
-    states: &mut [u8],
-    links: &mut [u16],
-    leaders: &mut [u16],
-    holds: &mut [u16],
-    counts: &mut [u32],
-    list: &mut [u16],
-    work: &mut [u32],
-    from: usize,
-    out: &mut [u8],
-    room: &mut [u8],
-    start: usize,
-) -> Place
-    requires { ⌜ Stands n (storeOf n (now states) (now links) (now leaders) (now holds) (now counts)) (now list) (now work) from × Unended (now text) × (6208 ≤ length (now out)) × (start ≤ length (now room)) ⌝ }
-    ensures { λ r. ⌜ Ended n (storeOf n (now (states .entry)) (now (links .entry)) (now (leaders .entry)) (now (holds .entry)) (now (counts .entry))) (now (text .entry)) (now (room .entry)) start
-        (storeOf n (now (states .exit)) (now (links .exit)) (now (leaders .exit)) (now (holds .exit)) (now (counts .exit))) (now (list .exit)) (now (work .exit)) (now (room .exit)) (r .full) (r .written) (r .from) ⌝ }
+// A line without its end, or the first bytes of it that are enough, with byte 10 behind them; nothing where the line is empty.
+fn end_line(line: &[u8], last: &mut [u8]) -> usize
+    requires { ⌜ enough < length (now last) ⌝ }
+    ensures { λ r. ⌜ Ends (now (line .entry)) (now (last .exit)) r ⌝ }
 {
-    if text.len() == 0 {
-        return Place {
-            full: false,
-            written: start,
-            from: from,
-        };
+    if line.len() == 0 {
+        return 0;
     }
-    let mut size = text.len();
-    if 65 < size {
-        size = 65;
+    let mut size = line.len();
+    if ENOUGH < size {
+        size = ENOUGH;
     }
-    let mut last = [0u8; 66];
-    copy(&mut last, 0, text, size);
+    copy(last, 0, line, size);
     last[size] = 10;
-    let end = size + 1;
-    pour(
-        &last[..end],
-        n,
-        states,
-        links,
-        leaders,
-        holds,
-        counts,
-        list,
-        work,
-        from,
-        out,
-        room,
-        start,
-    )
+    size + 1
 }
 
-// The output's length, and the room holds the output, then zeros; or ROOM, and the room is all zeros.
-pub fn lend(
+// Answers a whole text into the room: its whole lines, then what is left of it as a line.
+fn pour_all(
     text: &[u8],
     n: usize,
     states: &mut [u8],
@@ -168,9 +142,12 @@ pub fn lend(
     from: usize,
     out: &mut [u8],
     room: &mut [u8],
-) -> u64
-    requires { ⌜ Stands n (storeOf n (now states) (now links) (now leaders) (now holds) (now counts)) (now list) (now work) from × (6208 ≤ length (now out)) ⌝ }
-    ensures { λ r. ⌜ given r (now (room .exit)) ≡ inRoom (outputOf (storeOf n (now (states .entry)) (now (links .entry)) (now (leaders .entry)) (now (holds .entry)) (now (counts .entry))) (linesFrom [] (now (text .entry)))) (now (room .entry)) ⌝ }
+) -> Place
+    requires { ⌜ Stands n (storeOf n (now states) (now links) (now leaders) (now holds) (now counts)) (now list) (now work) from × (longest ≤ length (now out)) ⌝ }
+    ensures { λ r. ⌜ Filled n (storeOf n (now (states .entry)) (now (links .entry)) (now (leaders .entry)) (now (holds .entry)) (now (counts .entry)))
+        (now (text .entry)) (now (room .entry))
+        (storeOf n (now (states .exit)) (now (links .exit)) (now (leaders .exit)) (now (holds .exit)) (now (counts .exit)))
+        (now (list .exit)) (now (work .exit)) (now (room .exit)) r ⌝ }
 {
     let whole = reader::whole(text);
     let lines = pour(
@@ -188,15 +165,13 @@ pub fn lend(
         room,
         0,
     );
-    let full = lines.full;
-    let written = lines.written;
-    let low = lines.from;
-    if full {
-        clear_from(room, 0);
-        return 9223372036854775819;
-    }
-    let place = pour_last(
-        &text[whole..],
+    let Place::Written { size, from: low } = lines else {
+        return Place::Full;
+    };
+    let mut last = [0u8; ENOUGH + 1];
+    let end = end_line(&text[whole..], &mut last);
+    pour(
+        &last[..end],
         n,
         states,
         links,
@@ -208,23 +183,30 @@ pub fn lend(
         low,
         out,
         room,
-        written,
-    );
-    let over = place.full;
-    let at = place.written;
-    if over {
-        clear_from(room, 0);
-        return 9223372036854775819;
+        size,
+    )
+}
+
+// An output that is longer than the room: the room is all zeros.
+fn no_room(room: &mut [u8]) -> u64
+    ensures { λ r. ⌜ ((out : List ℕ) → length (now (room .entry)) < length out → given r (now (room .exit)) ≡ inRoom out (now (room .entry))) ⌝ }
+{
+    clear_from(room, 0);
+    ROOM
+}
+
+// The first k bytes of out behind the first bytes of the room, then zeros, where they fit.
+fn finish(room: &mut [u8], size: usize, out: &[u8], k: usize) -> u64
+    requires { ⌜ (size ≤ length (now room)) × (k ≤ length (now out)) ⌝ }
+    ensures { λ r. ⌜ given r (now (room .exit)) ≡ inRoom (take size (now (room .entry)) ++ take k (now (out .entry))) (now (room .entry)) ⌝ }
+{
+    if room.len() - size < k {
+        return no_room(room);
     }
-    let k = reader::close(n, states, links, leaders, holds, counts, out, 0);
-    if room.len() - at < k {
-        clear_from(room, 0);
-        return 9223372036854775819;
-    }
-    copy(room, at, out, k);
-    let size = at + k;
-    clear_from(room, size);
-    size as u64
+    copy(room, size, out, k);
+    let all = size + k;
+    clear_from(room, all);
+    all as u64
 }
 
 // A trace lent in memory, on a store of its own of capacity 1,024. LONG is checked first.
@@ -232,7 +214,7 @@ pub fn lent_trace(text: &[u8], room: &mut [u8]) -> u64
     ensures { λ r. ⌜ given r (now (room .exit)) ≡ lentTrace (now (text .entry)) (now (room .entry)) ⌝ }
 {
     if Store::TRACE < text.len() {
-        return 9223372036854775818;
+        return LONG;
     }
     let mut states = [0u8; 1024];
     let mut links = [65535u16; 4096];
@@ -242,9 +224,9 @@ pub fn lent_trace(text: &[u8], room: &mut [u8]) -> u64
     let mut list = [0u16; 1024];
     let mut work = [0u32; 8192];
     let mut out = [0u8; 8192];
-    lend(
+    let place = pour_all(
         text,
-        1024,
+        Store::MOST,
         &mut states,
         &mut links,
         &mut leaders,
@@ -255,5 +237,10 @@ pub fn lent_trace(text: &[u8], room: &mut [u8]) -> u64
         0,
         &mut out,
         room,
-    )
+    );
+    let Place::Written { size, from: _ } = place else {
+        return no_room(room);
+    };
+    let k = reader::close(Store::MOST, &states, &leaders, &mut out, 0);
+    finish(room, size, &out, k)
 }

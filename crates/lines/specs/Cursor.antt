@@ -1,5 +1,5 @@
 -- What the line cursor hands back, against the rules' words.
-use mathlib.Core.List.{List, [], _∷_}
+use mathlib.Core.List.{List}
 use Prim.Native.Nat.{ℕ, _-_}
 use lib.Dec.{leb}
 use lib.ListN.{drop}

@@ -1,20 +1,20 @@
 -- A line read at its place in a text: the byte 10 behind its last word ends it.
-use mathlib.Core.Path.{_≡_, refl, sym, ap, _∙_}
+use mathlib.Core.Path.{_≡_, refl, ap, _∙_}
 use mathlib.Core.Bool.{Bool, true, false}
 use mathlib.Core.List.{List, [], _∷_, _++_}
 use Prim.Native.Nat.{ℕ, suc, _+_, _≤_, _<_}
 use native.Mathlib.Omega.{arith}
-use native.Mathlib.Numerals.{add-one}
-use borrow.Author.Tests.{leb-true, leb-false, eq-eqb, ne-eqb}
 use lib.Dec.{eqb, leb}
-use lib.ListN.{length, getD, take, drop, length-drop}
-use lib.Seq.{drop-cons, take-append-le, drop-append-le, getD-drop}
+use lib.ListN.{length, getD, take, drop}
+use lib.Seq.{take-append-le, drop-append-le}
 use Rattle.rules.specs.Tests.{_&_, pick}
-use Rattle.rules.specs.Trace.{Word, is, bad, isDigit, digits, decimalFrom, numberOfDigits, number, word, target, targetWord, ends, naming, setTo, setPlace, setPiece, chosen, says}
+use Rattle.rules.specs.Trace.{Word, is, bad, isDigit, digits, decimalFrom, numberOfDigits, number, word, target, targetWord, says}
 use Rattle.rules.specs.declared.Command.{Command}
 use Rattle.rules.specs.declared.Command.the-variants.{New, Set, Freeze, Acquire, Release, Bin, Look}
 use Rattle.rules.specs.declared.Line.{Line}
 use Rattle.rules.specs.declared.Line.the-variants.{Does, Bad}
+use Rattle.lines.specs.declared.Named.{Named}
+use Rattle.lines.specs.declared.Named.the-variants.{Piece, Nothing}
 use Rattle.lines.specs.declared.Found.{Found}
 use Rattle.lines.specs.declared.Found.the-variants.{Right, Other}
 
@@ -50,7 +50,7 @@ pub record Reads (text : List ℕ) (at : ℕ) (r : Found) : Type 0 where
   pub exact : (line more : List ℕ) → Unended line → drop at text ≡ line ++ (10 ∷ more) → frontOf text r ≡ leaving (says line) more
   pub inside : nextOf r ≤ length text
 
--- ---- the words of 01, with byte 10 where the line ends
+-- ---- the words of the rulebook, with byte 10 where the line ends
 
 abbrev pub endedBy : Command → List ℕ → Front
 endedBy c [] = other
@@ -72,16 +72,25 @@ abbrev pub setPieceBy : Word → Front
 setPieceBy bad = other
 setPieceBy (is p rest) = setPlaceBy p (word rest)
 
-unfoldable pub namedBy : ℕ → Word → Front
-namedBy b w =
-    pick (eqb b 102) (namingBy Freeze w)
-    (pick (eqb b 97) (namingBy Acquire w)
-    (pick (eqb b 114) (namingBy Release w)
-    (pick (eqb b 98) (namingBy Bin w)
-    (pick (eqb b 108) (namingBy Look w) other))))
-
 unfoldable pub chosenBy : ℕ → List ℕ → Front
-chosenBy b rest = pick (eqb b 110) (endedBy New rest) (pick (eqb b 115) (setPieceBy (word rest)) (namedBy b (word rest)))
+chosenBy b rest =
+    pick (eqb b 110) (endedBy New rest)
+    (pick (eqb b 115) (setPieceBy (word rest))
+    (pick (eqb b 102) (namingBy Freeze (word rest))
+    (pick (eqb b 97) (namingBy Acquire (word rest))
+    (pick (eqb b 114) (namingBy Release (word rest))
+    (pick (eqb b 98) (namingBy Bin (word rest))
+    (pick (eqb b 108) (namingBy Look (word rest)) other))))))
+
+-- the command c of the piece named
+abbrev pub foundBy : (ℕ → Command) → Named → Found
+foundBy c (Piece p next) = Right (c p) next
+foundBy c Nothing = Other
+
+-- what stands at a place names a piece, for every command that names one
+pub record Names (text : List ℕ) (at : ℕ) (r : Named) : Type 0 where
+  pub exact : (c : ℕ → Command) → frontOf text (foundBy c r) ≡ namingBy c (word (drop at text))
+  pub inside : (c : ℕ → Command) → nextOf (foundBy c r) ≤ length text
 
 -- ---- a word before byte 10 is the word of the line
 
@@ -113,7 +122,9 @@ number-ended l more =
     rw (digits-ended l more, take-append-le (digits l) l (10 ∷ more) (digits-most l), drop-append-le (digits l) l (10 ∷ more) (digits-most l))
     (by-test (leb 1 (digits l) & leb (digits l) 5 & leb (decimalFrom 0 (take (digits l) l)) 65535))
   where
-    by-test : (t : Bool) → pick t (is (decimalFrom 0 (take (digits l) l)) (drop (digits l) l ++ (10 ∷ more))) bad ≡ behind (pick t (is (decimalFrom 0 (take (digits l) l)) (drop (digits l) l)) bad) (10 ∷ more)
+    by-test : (t : Bool)
+        → pick t (is (decimalFrom 0 (take (digits l) l)) (drop (digits l) l ++ (10 ∷ more))) bad
+        ≡ behind (pick t (is (decimalFrom 0 (take (digits l) l)) (drop (digits l) l)) bad) (10 ∷ more)
     by-test true = refl
     by-test false = refl
 
@@ -131,7 +142,8 @@ unfolding target
 target-ended [] more = number-ended [] more ∙ (unfold number numberOfDigits digits in refl)
 target-ended (b ∷ bs) more = by-test (eqb b 45) (number-ended (b ∷ bs) more)
   where
-    by-test : (t : Bool) → number (b ∷ (bs ++ (10 ∷ more))) ≡ behind (number (b ∷ bs)) (10 ∷ more) → pick t (is 65535 (bs ++ (10 ∷ more))) (number (b ∷ (bs ++ (10 ∷ more)))) ≡ behind (pick t (is 65535 bs) (number (b ∷ bs))) (10 ∷ more)
+    by-test : (t : Bool) → number (b ∷ (bs ++ (10 ∷ more))) ≡ behind (number (b ∷ bs)) (10 ∷ more)
+        → pick t (is 65535 (bs ++ (10 ∷ more))) (number (b ∷ (bs ++ (10 ∷ more)))) ≡ behind (pick t (is 65535 bs) (number (b ∷ bs))) (10 ∷ more)
     by-test true e = refl
     by-test false e = e
 

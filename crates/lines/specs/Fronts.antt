@@ -1,5 +1,5 @@
 -- What is found at the front of a text is what its first line says: byte 10 stands behind its last word, or the line is bad.
-use mathlib.Core.Path.{_≡_, refl, sym, ap, _∙_}
+use mathlib.Core.Path.{_≡_, refl, sym, ap, _∙_, subst}
 use mathlib.Core.Bool.{Bool, true, false}
 use mathlib.Core.List.{List, [], _∷_, _++_}
 use Prim.Native.Nat.{ℕ, suc, _+_, _≤_, _<_}
@@ -14,10 +14,13 @@ use Rattle.rules.specs.Trace.{Word, is, bad, digits, decimalFrom, numberOfDigit
 use Rattle.rules.specs.declared.Command.{Command}
 use Rattle.rules.specs.declared.Command.the-variants.{New, Set, Freeze, Acquire, Release, Bin, Look}
 use Rattle.rules.specs.declared.Line.{Line}
-use Rattle.rules.specs.declared.Line.the-variants.{Does, Bad}
+use Rattle.rules.specs.declared.Line.the-variants.{Bad}
+use Rattle.lines.specs.declared.Named.{Named}
+use Rattle.lines.specs.declared.Named.the-variants.{Piece, Nothing}
 use Rattle.lines.specs.declared.Found.{Found}
 use Rattle.lines.specs.declared.Found.the-variants.{Right, Other}
-use Rattle.lines.specs.Ending.{Unended, Front, right, other, leaving, frontOf, nextOf, Reads, endedBy, namingBy, setToBy, setPlaceBy, setPieceBy, namedBy, chosenBy, behind, digits-most, word-ended, target-word-ended}
+use Rattle.lines.specs.Ending.{Closed, Unended, Front, right, other, leaving, frontOf, nextOf, Reads, endedBy, namingBy, setToBy, setPlaceBy, setPieceBy, foundBy, Names, chosenBy}
+use Rattle.lines.specs.Ending.{behind, digits-most, word-ended, target-word-ended}
 
 -- ---- what is left behind a word: of a line without end one without end, at most k bytes shorter
 
@@ -100,7 +103,7 @@ module _ (more : List ℕ) where
   pick-is false x y a b = b
 
   chosen-is : (b : ℕ) (l : List ℕ) → Unended l → chosenBy b (l ++ (10 ∷ more)) ≡ leaving (chosen b l) more
-  unfolding chosenBy namedBy chosen
+  unfolding chosenBy chosen
   chosen-is b l u =
       rw (word-ended l more)
       (pick-is (eqb b 110) (ends New l) set (ended-is New l u)
@@ -185,14 +188,6 @@ says-chosen b l u = by-test (leb (suc (length l)) 64) refl
 
 -- ---- at a place of a text
 
-pick-other : (t : Bool) {u v : Front} → u ≡ other → v ≡ other → pick t u v ≡ other
-pick-other true a b = a
-pick-other false a b = b
-
-pub named-bad : (b : ℕ) → namedBy b bad ≡ other
-unfolding namedBy
-named-bad b = pick-other (eqb b 102) refl (pick-other (eqb b 97) refl (pick-other (eqb b 114) refl (pick-other (eqb b 98) refl (pick-other (eqb b 108) refl refl))))
-
 module _ (text : List ℕ) (at : ℕ) where
   pub ended-here : (c : Command) → at < length text → getD text at 0 ≡ 10 → endedBy c (drop at text) ≡ right c (drop (at + 1) text)
   ended-here c l e = rw (drop-cons text at 0 l, add-one at, eq-eqb (getD text at 0) 10 e)
@@ -201,53 +196,98 @@ module _ (text : List ℕ) (at : ℕ) where
   ended-not c l e = rw (drop-cons text at 0 l, ne-eqb (getD text at 0) 10 e)
 
   -- what was found is what the line says
-  found-exact : at < length text → (r : Found) → frontOf text r ≡ chosenBy (getD text at 0) (drop (at + 1) text) → (line more : List ℕ) → Unended line → drop at text ≡ line ++ (10 ∷ more) → frontOf text r ≡ leaving (says line) more
+  found-exact : at < length text → (r : Found) → frontOf text r ≡ chosenBy (getD text at 0) (drop (at + 1) text)
+      → (line more : List ℕ) → Unended line → drop at text ≡ line ++ (10 ∷ more) → frontOf text r ≡ leaving (says line) more
   found-exact l r e line more u h = e ∙ go line u (sym (drop-cons text at 0 l) ∙ h)
     where
-      go : (line : List ℕ) → Unended line → getD text at 0 ∷ drop (suc at) text ≡ line ++ (10 ∷ more) → chosenBy (getD text at 0) (drop (at + 1) text) ≡ leaving (says line) more
+      go : (line : List ℕ) → Unended line → getD text at 0 ∷ drop (suc at) text ≡ line ++ (10 ∷ more)
+          → chosenBy (getD text at 0) (drop (at + 1) text) ≡ leaving (says line) more
       go [] v x =
           let p : getD text at 0 ≡ 10 = cc in
-          ap (λ (b : ℕ). chosenBy b (drop (at + 1) text)) p ∙ (unfold chosenBy namedBy says in refl)
+          ap (λ (b : ℕ). chosenBy b (drop (at + 1) text)) p ∙ (unfold chosenBy says in refl)
       go (b ∷ bs) v x =
           let p : getD text at 0 ≡ b = cc in
           let q : drop (suc at) text ≡ bs ++ (10 ∷ more) = cc in
           ap (λ (n : ℕ). chosenBy (getD text at 0) (drop n text)) (add-one at) ∙ ap (λ (y : ℕ). chosenBy y (drop (suc at) text)) p ∙ ap (chosenBy b) q
           ∙ chosen-is more b bs (unended-tail b bs v) ∙ ap (λ (y : Line). leaving y more) (sym (says-chosen b bs (unended-tail b bs v)))
 
-  -- no name serves where the line goes on
-  pub named-not : (b p : ℕ) → at < length text → (getD text at 0 ≡ 10 → ⊥) → namedBy b (is p (drop at text)) ≡ other
-  unfolding namedBy
-  named-not b p l e =
-      pick-other (eqb b 102) (ended-not (Freeze p) l e)
-      (pick-other (eqb b 97) (ended-not (Acquire p) l e)
-      (pick-other (eqb b 114) (ended-not (Release p) l e)
-      (pick-other (eqb b 98) (ended-not (Bin p) l e)
-      (pick-other (eqb b 108) (ended-not (Look p) l e) refl))))
+-- ---- a line behind its first byte
+
+module _ (text : List ℕ) (at : ℕ) where
+  pub news : at < length text → getD text at 0 ≡ 10 → (frontOf text (Right New (at + 1)) ≡ endedBy New (drop at text)) × (at + 1 ≤ length text)
+  news h e = (sym (ended-here text at New h e), omega arith)
+
+  pub no-new : at < length text → (getD text at 0 ≡ 10 → ⊥) → (frontOf text Other ≡ endedBy New (drop at text)) × (nextOf Other ≤ length text)
+  no-new h e = (sym (ended-not text at New h e), omega arith)
+
+module _ {text : List ℕ} {at : ℕ} where
+  pub names-none : word (drop at text) ≡ bad → Names text at Nothing
+  names-none e = record { exact = λ c. sym (ap (namingBy c) e); inside = λ c. omega arith }
+
+  -- the word p, and what stands at `end` behind it
+  module _ {p end : ℕ} (e : word (drop at text) ≡ is p (drop end text)) (h : end < length text) where
+    pub names-piece : getD text end 0 ≡ 10 → Names text at (Piece p (end + 1))
+    names-piece x = record { exact = λ c. sym (ap (namingBy c) e ∙ ended-here text end (c p) h x); inside = λ c. omega arith }
+
+    pub names-more : (getD text end 0 ≡ 10 → ⊥) → Names text at Nothing
+    names-more x = record { exact = λ c. sym (ap (namingBy c) e ∙ ended-not text end (c p) h x); inside = λ c. omega arith }
 
 -- ---- what is found, by the first byte
 
-module _ (text : List ℕ) (at : ℕ) (l : at < length text) where
+-- the letter b is that of command c
+abbrev pub Letter : ℕ → (ℕ → Command) → Type 0
+Letter b c = (rest : List ℕ) → chosenBy b rest ≡ namingBy c (word rest)
+
+module _ {text : List ℕ} {at : ℕ} (l : at < length text) where
   reads : (r : Found) → frontOf text r ≡ chosenBy (getD text at 0) (drop (at + 1) text) → nextOf r ≤ length text → Reads text at r
   reads r e h = record { exact = found-exact text at l r e; inside = h }
 
-  pub reads-none : getD text at 0 ≡ 10 → Reads text at Other
-  unfolding chosenBy namedBy
-  reads-none e = reads Other (rw e) (omega arith)
-
-  pub reads-new : getD text at 0 ≡ 110 → at + 1 < length text → getD text (at + 1) 0 ≡ 10 → Reads text at (Right New (at + 2))
+  pub reads-new : {r : Found} → getD text at 0 ≡ 110 → (frontOf text r ≡ endedBy New (drop (at + 1) text)) × (nextOf r ≤ length text) → Reads text at r
   unfolding chosenBy
-  reads-new e h x =
-      let s : at + 2 ≡ at + 1 + 1 = omega arith in
-      reads (Right New (at + 2)) (rw (e, s) (sym (ended-here text (at + 1) New h x))) (omega arith)
+  reads-new {r} e h = reads r (rw e (h .0)) (h .1)
 
-  pub reads-new-not : getD text at 0 ≡ 110 → at + 1 < length text → (getD text (at + 1) 0 ≡ 10 → ⊥) → Reads text at Other
+  pub reads-set : {r : Found} → getD text at 0 ≡ 115
+      → (frontOf text r ≡ setPieceBy (word (drop (at + 1) text))) × (nextOf r ≤ length text) → Reads text at r
   unfolding chosenBy
-  reads-new-not e h x = reads Other (rw e (sym (ended-not text (at + 1) New h x))) (omega arith)
+  reads-set {r} e h = reads r (rw e (h .0)) (h .1)
 
-  pub reads-set : (r : Found) → getD text at 0 ≡ 115 → (frontOf text r ≡ setPieceBy (word (drop (at + 1) text))) × (nextOf r ≤ length text) → Reads text at r
-  unfolding chosenBy
-  reads-set r e h = reads r (rw e (h .0)) (h .1)
+  -- a command that names one piece
+  reads-named : (c : ℕ → Command) (b : ℕ) → Letter b c → getD text at 0 ≡ b → {r : Named} {f : Found} → Names text (at + 1) r → foundBy c r ≡ f → Reads text at f
+  reads-named c b k e {r} {f} n same =
+      subst (Reads text at) same
+      (reads (foundBy c r) (n .exact c ∙ sym (ap (λ (x : ℕ). chosenBy x (drop (at + 1) text)) e ∙ k (drop (at + 1) text))) (n .inside c))
 
-  pub reads-name : (r : Found) → (getD text at 0 ≡ 110 → ⊥) → (getD text at 0 ≡ 115 → ⊥) → (frontOf text r ≡ namedBy (getD text at 0) (word (drop (at + 1) text))) × (nextOf r ≤ length text) → Reads text at r
+  module _ {r : Named} {f : Found} where
+    pub reads-freeze : getD text at 0 ≡ 102 → Names text (at + 1) r → foundBy Freeze r ≡ f → Reads text at f
+    reads-freeze e n same = reads-named Freeze 102 (λ rest. unfold chosenBy in refl) e n same
+
+    pub reads-acquire : getD text at 0 ≡ 97 → Names text (at + 1) r → foundBy Acquire r ≡ f → Reads text at f
+    reads-acquire e n same = reads-named Acquire 97 (λ rest. unfold chosenBy in refl) e n same
+
+    pub reads-release : getD text at 0 ≡ 114 → Names text (at + 1) r → foundBy Release r ≡ f → Reads text at f
+    reads-release e n same = reads-named Release 114 (λ rest. unfold chosenBy in refl) e n same
+
+    pub reads-bin : getD text at 0 ≡ 98 → Names text (at + 1) r → foundBy Bin r ≡ f → Reads text at f
+    reads-bin e n same = reads-named Bin 98 (λ rest. unfold chosenBy in refl) e n same
+
+    pub reads-look : getD text at 0 ≡ 108 → Names text (at + 1) r → foundBy Look r ≡ f → Reads text at f
+    reads-look e n same = reads-named Look 108 (λ rest. unfold chosenBy in refl) e n same
+
+  -- all others are bad
+  pub reads-other : (getD text at 0 ≡ 110 → ⊥) → (getD text at 0 ≡ 115 → ⊥) → (getD text at 0 ≡ 102 → ⊥) → (getD text at 0 ≡ 97 → ⊥)
+      → (getD text at 0 ≡ 114 → ⊥) → (getD text at 0 ≡ 98 → ⊥) → (getD text at 0 ≡ 108 → ⊥) → Reads text at Other
   unfolding chosenBy
-  reads-name r a b h = reads r (rw (ne-eqb (getD text at 0) 110 a, ne-eqb (getD text at 0) 115 b) (h .0)) (h .1)
+  reads-other n s f a r b k =
+      reads Other (rw (
+        ne-eqb (getD text at 0) 110 n,
+        ne-eqb (getD text at 0) 115 s,
+        ne-eqb (getD text at 0) 102 f,
+        ne-eqb (getD text at 0) 97 a,
+        ne-eqb (getD text at 0) 114 r,
+        ne-eqb (getD text at 0) 98 b,
+        ne-eqb (getD text at 0) 108 k,
+      )) (omega arith)
+
+-- a letter is not the end of its line
+pub goes-on : (text : List ℕ) (at : ℕ) {b : ℕ} → (at < length text) × Closed text → getD text at 0 ≡ b → (b ≡ 10 → ⊥) → (at + 1 < length text) × Closed text
+goes-on text at g e d = (g .1 at (g .0) (λ x. d (sym e ∙ x)), g .1)

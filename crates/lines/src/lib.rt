@@ -3,8 +3,9 @@ ghost use mathlib.Core.Path.{_≡_};
 ghost use Prim.Native.Nat.{_≤_, _<_};
 ghost use lib.ListN.{length, drop};
 ghost use Rattle.rules.specs.Trace.{number, word, target, targetWord};
+ghost use Rattle.rules.specs.declared.Command.the-variants.{New};
 ghost use Rattle.lines.specs.Cursor.{digitOf, takenOf, wordOf, placeOf};
-ghost use Rattle.lines.specs.Ending.{Closed, Reads, frontOf, nextOf, setPieceBy, namedBy};
+ghost use Rattle.lines.specs.Ending.{Names, endedBy, Closed, Reads, frontOf, nextOf, setPieceBy};
 use rules::Command;
 use rules::Store;
 
@@ -117,25 +118,38 @@ impl Cursor {
     }
 }
 
-// A line `f P`, `a P`, `r P`, `b P` or `l P` behind its first byte.
-fn name_line(b: u8, text: &[u8], at: usize) -> Found
+// What stands behind the letter of a command that names one piece.
+enum Named {
+    // A piece, with byte 10 behind it; the place behind that.
+    Piece(u16, usize),
+    // Anything else.
+    Nothing,
+}
+
+// The piece that a line names behind its first byte.
+fn name_line(text: &[u8], at: usize) -> Named
     requires { ⌜ (at < length (now text)) × Closed (now text) ⌝ }
-    ensures { λ r. ⌜ (frontOf (now (text .entry)) r ≡ namedBy b (word (drop at (now (text .entry))))) × (nextOf r ≤ length (now (text .entry))) ⌝ }
+    ensures { λ r. ⌜ Names (now (text .entry)) at r ⌝ }
 {
     let Taken::Number(p, c) = (Cursor { at: at }).word(text) else {
-        return Found::Other;
+        return Named::Nothing;
     };
     let end = c.at;
     if text[end] != 10 {
-        return Found::Other;
+        return Named::Nothing;
     }
-    match b {
-        102 => Found::Right(Command::Freeze(p), end + 1),
-        97 => Found::Right(Command::Acquire(p), end + 1),
-        114 => Found::Right(Command::Release(p), end + 1),
-        98 => Found::Right(Command::Bin(p), end + 1),
-        108 => Found::Right(Command::Look(p), end + 1),
-        _ => Found::Other,
+    Named::Piece(p, end + 1)
+}
+
+// A line `n` behind its first byte.
+fn new_line(text: &[u8], at: usize) -> Found
+    requires { ⌜ at < length (now text) ⌝ }
+    ensures { λ r. ⌜ (frontOf (now (text .entry)) r ≡ endedBy New (drop at (now (text .entry)))) × (nextOf r ≤ length (now (text .entry))) ⌝ }
+{
+    if text[at] == 10 {
+        Found::Right(Command::New, at + 1)
+    } else {
+        Found::Other
     }
 }
 
@@ -167,20 +181,28 @@ pub fn read(text: &[u8], at: usize) -> Found
 {
     let b = text[at];
     match b {
-        110 => {
-            if text[at + 1] == 10 {
-                Found::Right(Command::New, at + 2)
-            } else {
-                Found::Other
-            }
-        }
-        115 => set_line(text, at + 1),
-        _ => {
-            if b == 10 {
-                Found::Other
-            } else {
-                name_line(b, text, at + 1)
-            }
-        }
+        b'n' => new_line(text, at + 1),
+        b's' => set_line(text, at + 1),
+        b'f' => match name_line(text, at + 1) {
+            Named::Piece(p, next) => Found::Right(Command::Freeze(p), next),
+            Named::Nothing => Found::Other,
+        },
+        b'a' => match name_line(text, at + 1) {
+            Named::Piece(p, next) => Found::Right(Command::Acquire(p), next),
+            Named::Nothing => Found::Other,
+        },
+        b'r' => match name_line(text, at + 1) {
+            Named::Piece(p, next) => Found::Right(Command::Release(p), next),
+            Named::Nothing => Found::Other,
+        },
+        b'b' => match name_line(text, at + 1) {
+            Named::Piece(p, next) => Found::Right(Command::Bin(p), next),
+            Named::Nothing => Found::Other,
+        },
+        b'l' => match name_line(text, at + 1) {
+            Named::Piece(p, next) => Found::Right(Command::Look(p), next),
+            Named::Nothing => Found::Other,
+        },
+        _ => Found::Other,
     }
 }

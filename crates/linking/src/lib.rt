@@ -1,29 +1,13 @@
 // One link place of a draft goes to another target, and the counts follow.
 ghost use mathlib.Core.Path.{_≡_};
-ghost use Prim.Native.Nat.{ℕ, _+_, _*_, _≤_, _<_};
+ghost use Prim.Native.Nat.{_+_, _*_, _<_};
 ghost use lib.ListN.{length, set};
-ghost use Rattle.tallies.specs.Tally.{_!_};
-ghost use Rattle.tallies.specs.Adding.{Labelled};
-ghost use Rattle.editing.specs.Relink.{names, Counted, Uncounted, Relinking, Relinked};
-
-// One more for the group of t, if it has one.
-fn count_in(n: usize, leaders: &[u16], counts: &mut [u32], t: usize)
-    requires { ⌜ Labelled n (now leaders) (now counts) × ((l : ℕ) → l < n → now counts ! l < 1028097) ⌝ }
-    ensures { λ _. ⌜ Counted n (now (leaders .entry)) (now (counts .entry)) t (now (counts .exit)) ⌝ }
-{
-    if n <= t {
-        return;
-    }
-    let l = leaders[t] as usize;
-    if n <= l {
-        return;
-    }
-    counts[l] = counts[l] + 1;
-}
+ghost use Rattle.editing.specs.Relink.{Uncounting, Uncounted, Relinking, Relinked};
+use rules::Store;
 
 // One less for the group of t, if it has one.
 fn count_out(n: usize, leaders: &[u16], counts: &mut [u32], t: usize)
-    requires { ⌜ Labelled n (now leaders) (now counts) × ((l : ℕ) → l < n → names (now leaders) l t ≤ now counts ! l) ⌝ }
+    requires { ⌜ Uncounting n (now leaders) (now counts) t ⌝ }
     ensures { λ _. ⌜ Uncounted n (now (leaders .entry)) (now (counts .entry)) t (now (counts .exit)) ⌝ }
 {
     if n <= t {
@@ -44,7 +28,7 @@ fn put_link(part: &mut [u16], k: usize, t: u16)
     part[k] = t;
 }
 
-// Draft p's link k becomes t. The new target is counted before the old one is taken away. Gives the old one.
+// Draft p's link k becomes t. The new target is counted, as named by a piece without a leader, before the old one is taken away. Gives the old one.
 pub fn relink(
     n: usize,
     links: &mut [u16],
@@ -57,11 +41,11 @@ pub fn relink(
     requires { ⌜ Relinking n (now links) (now leaders) (now counts) (4 * p + k) t ⌝ }
     ensures { λ r. ⌜ Relinked n (now (links .entry)) (now (leaders .entry)) (now (counts .entry)) (4 * p + k) t (now (links .exit)) (now (counts .exit)) r ⌝ }
 {
-    let at = 4 * p;
+    let at = Store::LINKS * p;
     let i = at + k;
     let old = links[i] as usize;
-    let new = t as usize;
-    count_in(n, leaders, counts, new);
+    let none = Store::NONE as usize;
+    counts::add_link(n, leaders, counts, none, t);
     put_link(&mut links[at..], k, t);
     count_out(n, leaders, counts, old);
     old

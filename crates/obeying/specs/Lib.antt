@@ -1,3 +1,4 @@
 pub mod Obeyed
+pub mod Freed
 pub mod From
-pub mod Lowered
+pub mod Arms

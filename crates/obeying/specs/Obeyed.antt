@@ -1,16 +1,16 @@
--- What obeying a command means, and what it frees.
-use mathlib.Core.Path.{_≡_, refl, sym, ap, _∙_, subst}
-use mathlib.Core.Logic.{_⊎_, inl, inr, ⊎-elim}
-use mathlib.Core.Bool.{false}
-use mathlib.Core.List.{List, []}
-use Prim.Native.Nat.{ℕ, _≤_, _<_}
-use native.Mathlib.Omega.{arith}
-use lib.ListN.{getD}
+-- What obeying a command means: what stands before it and again after it, and the number below which nothing is then free.
+use mathlib.Core.Path.{_≡_}
+use mathlib.Core.List.{List}
+use Prim.Native.Nat.{ℕ, _+_, _≤_, _<_}
+use lib.Dec.{T}
+use lib.ListN.{length, getD}
 use Rattle.rules.specs.Tables.{Store}
-use Rattle.rules.specs.Commands.{settles}
-use Rattle.rules.specs.Calls.{Reply, answered, saw, Effect, effect, Did}
+use Rattle.rules.specs.Calls.{Reply, answered, saw, effect, Ready, Clear, Did}
+use Rattle.rules.specs.History.{isAccepted, freedIn}
 use Rattle.rules.specs.declared.Command.{Command}
-use Rattle.laws.specs.Verdicts.{any-list}
+use Rattle.rules.specs.declared.Answer.{Answer}
+use Rattle.rules.specs.declared.Answer.the-variants.{Done, Refused}
+use Rattle.areas.specs.Lowest.{NoneFree}
 use Rattle.obeying.specs.declared.Reply as code
 use Rattle.obeying.specs.declared.Reply.the-variants.{Answered, Saw}
 
@@ -18,14 +18,31 @@ abbrev pub replyOf : code.Reply → Reply
 replyOf (Answered a) = answered a
 replyOf (Saw s) = saw s
 
--- r is the lower of `from` and the first of the numbers freed
-pub record Lower (list : List ℕ) (freed from r : ℕ) : Type 0 where
+-- sound tables of capacity n, room for the list, a clear work, and a number below which nothing is free
+pub record Stands (n : ℕ) (s : Store) (l w : List ℕ) (from : ℕ) : Type 0 where
+  pub ready : Ready s
+  pub room : n ≤ length l
+  pub clear : Clear n w
+  pub small : from ≤ n
+  pub none : NoneFree (s .base .states) from
+
+-- the reply, the store and the list are what the rules give, work is as it was, and the store stands again
+pub record Obeys (c : Command) (s : Store) (l w : List ℕ) (r : Reply) (s′ : Store) (l′ w′ : List ℕ) (from : ℕ) : Type 0 where
+  pub did : Did c s l (effect r s′ l′)
+  pub clear : w′ ≡ w
+  pub stands : Stands (s .base .n) s′ l′ w′ from
+
+-- above the number that new gave out; `from` where it was refused
+abbrev pub aboveOf : Answer → ℕ → ℕ
+aboveOf (Done v f) from = v + 1
+aboveOf (Refused r) from = from
+
+-- r is at most `from` and the first of the numbers freed
+pub record Lower (a : Answer) (list : List ℕ) (from r : ℕ) : Type 0 where
   pub most : r ≤ from
-  pub first : 0 < freed → r ≤ getD list 0 0
+  pub first : 0 < freedIn (answered a) → r ≤ getD list 0 0
 
--- what was done for one command was done for the same under another name
-pub obeyed : (c d : Command) (s : Store) (l : List ℕ) (o : Effect) → c ≡ d → Did d s l o → Did c s l o
-obeyed c d s l o e x = subst (λ (y : Command). Did y s l o) (sym e) x
-
-pub obeyed-kept : (c d : Command) (s : Store) (l : List ℕ) (r : Reply) (s′ : Store) → c ≡ d → settles d ≡ false → Did d s [] (effect r s′ []) → Did c s l (effect r s′ l)
-obeyed-kept c d s l r s′ e off x = obeyed c d s l (effect r s′ l) e (any-list d s r s′ l off x)
+-- and at most p, where bin of p is accepted
+pub record LowerBin (p : ℕ) (a : Answer) (list : List ℕ) (from r : ℕ) : Type 0 where
+  pub lower : Lower a list from r
+  pub binned : T (isAccepted (answered a)) → r ≤ p

@@ -1,4 +1,4 @@
--- Where every piece is well: what leaves the frozen pieces, or the drafts, does not come back; and a lead among frozen pieces is 01's leader.
+-- Where every piece is well: what leaves the frozen pieces, or the drafts, does not come back; and a lead among frozen pieces is the rulebook's leader.
 use mathlib.Core.Path.{_≡_, sym, _∙_, subst}
 use mathlib.Core.Logic.{_⊎_, inl, inr, ⊎-elim}
 use Prim.Native.Nat.{ℕ, _≤_, _<_}
@@ -8,7 +8,7 @@ use Rattle.rules.specs.Reach.{Link, here, chain}
 use Rattle.rules.specs.Tables.{Base, state, linkAt}
 use Rattle.rules.specs.Words.{Frozen, Reaches, Leader, Well, wfree, wdraft, wfrozen}
 use Rattle.laws.specs.Words.{end-below}
-use Rattle.paths.specs.Ground.{ground, Closed, Lead, named}
+use Rattle.paths.specs.Ground.{ground, OneWay, Lead, linkIn}
 
 module _ (b : Base) (small : b .n ≤ most) (wells : (p : ℕ) → p < b .n → Well b p) where
   no-link : {p q : ℕ} → Link (b .n) (linkAt b) p q → (t : ℕ) → t ≡ q → t ≡ none → ⊥
@@ -41,29 +41,29 @@ module _ (b : Base) (small : b .n ≤ most) (wells : (p : ℕ) → p < b .n → 
       (w .links (l .place) (l .inside))
 
   -- the class of freeze: a draft's links are none or live, and what is frozen names no draft
-  pub drafts-closed : Closed (ground (b .n) (b .states) (b .links) 1)
+  pub drafts-closed : OneWay (ground (b .n) (b .states) (b .links) 1)
   unfolding state linkAt
   drafts-closed = record {
-    stays = λ p q r e l out d way.
+    stays = λ e l out d way.
         ⊎-elim
         (λ x. out x)
         (λ x. let f = frozen-stays x way in let z : _≡_ {A = ℕ} 1 2 = sym d ∙ f in omega arith)
-        (draft-next e l (wells p (l .from)));
+        (draft-next e l (wells _ (l .from)));
   }
 
   -- the class of check: a frozen piece's links are none or frozen
-  pub frozen-closed : Closed (ground (b .n) (b .states) (b .links) 2)
+  pub frozen-closed : OneWay (ground (b .n) (b .states) (b .links) 2)
   unfolding state linkAt
-  frozen-closed = record { stays = λ p q r e l out d way. out (frozen-next e l (wells p (l .from))) }
+  frozen-closed = record { stays = λ e l out d way. out (frozen-next e l (wells _ (l .from))) }
 
 -- where all that x reaches and that reach x are frozen, its lead is its leader
-pub lead-leader : (b : Base) (p l : ℕ) → ((q : ℕ) → Reaches b p q → Reaches b q p → Frozen b q) → Lead (b .n) (named (b .links)) p l → Leader b p l
+pub lead-leader : {b : Base} {p l : ℕ} → ((q : ℕ) → Reaches b p q → Reaches b q p → Frozen b q) → Lead (b .n) (linkIn (b .links)) p l → Leader b p l
 unfolding linkAt
-lead-leader b p l frozen L = record {
+lead-leader {l = l} frozen L = record {
   member = record { frozen = frozen l (L .there) (L .back); there = L .there; back = L .back };
   lowest = λ q m. L .lowest q (m .there) (m .back);
 }
 
 -- a frozen piece's lead is its leader
-pub frozen-leader : (b : Base) → b .n ≤ most → ((p : ℕ) → p < b .n → Well b p) → (p l : ℕ) → Frozen b p → Lead (b .n) (named (b .links)) p l → Leader b p l
-frozen-leader b small wells p l f L = lead-leader b p l (λ q r s. record { below = end-below (f .below) r; is = frozen-stays b small wells (f .is) r }) L
+pub frozen-leader : {b : Base} → b .n ≤ most → ((p : ℕ) → p < b .n → Well b p) → {p l : ℕ} → Frozen b p → Lead (b .n) (linkIn (b .links)) p l → Leader b p l
+frozen-leader {b} small wells f L = lead-leader (λ q r s. record { below = end-below (f .below) r; is = frozen-stays b small wells (f .is) r }) L

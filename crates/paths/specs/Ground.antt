@@ -2,26 +2,18 @@
 use mathlib.Core.Path.{_≡_, sym, subst}
 use mathlib.Core.List.{List}
 use Prim.Native.Nat.{ℕ, _+_, _*_, _≤_}
-use native.Mathlib.Omega.{arith}
-use lib.ListN.{getD}
+use Rattle.rules.specs.Lists.{_!_}
 use Rattle.rules.specs.Reach.{Link, Reach, here, chain}
 
-infixl 90 _!_
-abbrev pub _!_ : List ℕ → ℕ → ℕ
-l ! i = getD l i 0
-
 -- the four links of piece p start at entry 4p
-abbrev pub named : List ℕ → ℕ → ℕ → ℕ
-named links p k = links ! (4 * p + k)
+abbrev pub linkIn : List ℕ → ℕ → ℕ → ℕ
+linkIn links p k = links ! (4 * p + k)
 
 -- l is the lowest of all that p reaches and that reach p
 pub record Lead (n : ℕ) (at : ℕ → ℕ → ℕ) (p l : ℕ) : Type 0 where
   pub there : Reach n at p l
   pub back : Reach n at l p
   pub lowest : (q : ℕ) → Reach n at p q → Reach n at q p → l ≤ q
-
-pub lead-one : {n : ℕ} {at : ℕ → ℕ → ℕ} {p l m : ℕ} → Lead n at p l → Lead n at p m → l ≡ m
-lead-one {l = l} {m = m} a b = omega (arith, a .lowest m (b .there) (b .back), b .lowest l (a .there) (a .back))
 
 pub record Ground : Type 0 where
   pub n : ℕ
@@ -31,7 +23,7 @@ pub record Ground : Type 0 where
 
 -- the ground of the tables
 abbrev pub ground : ℕ → List ℕ → List ℕ → ℕ → Ground
-ground n states links class = record { n = n; at = named links; state = λ p. states ! p; class = class }
+ground n states links class = record { n = n; at = linkIn links; state = λ p. states ! p; class = class }
 
 module _ (g : Ground) where
   abbrev pub Step : ℕ → ℕ → Type 0
@@ -44,8 +36,8 @@ module _ (g : Ground) where
   Leads p l = Lead (g .n) (g .at) p l
 
   -- what leaves the class does not come back to it
-  pub record Closed : Type 0 where
-    pub stays : (p q r : ℕ) → g .state p ≡ g .class → Step p q → (g .state q ≡ g .class → ⊥) → g .state r ≡ g .class → Way q r → ⊥
+  pub record OneWay : Type 0 where
+    pub stays : {p q r : ℕ} → g .state p ≡ g .class → Step p q → (g .state q ≡ g .class → ⊥) → g .state r ≡ g .class → Way q r → ⊥
 
 pub one-step : {n : ℕ} {at : ℕ → ℕ → ℕ} {p q : ℕ} → Link n at p q → Reach n at p q
 one-step l = chain l here

@@ -1,6 +1,5 @@
 pub mod Ground
 pub mod Search
-pub mod Tools
 pub mod Sums
 pub mod Runs
 pub mod Stays

@@ -4,18 +4,21 @@ use mathlib.Core.List.{List}
 use Prim.Native.Nat.{ℕ, zero, suc, _+_, _-_, _≤_, _<_}
 use native.Mathlib.Omega.{arith}
 use Rattle.rules.specs.Reach.{here}
+use Rattle.rules.specs.Lists.{_!_}
 use Rattle.laws.specs.Words.{trans}
-use Rattle.paths.specs.Ground.{Ground, Way, _!_}
+use Rattle.paths.specs.Ground.{Ground, Way}
 use Rattle.paths.specs.Search.{Trail}
 
 -- each piece on the stack reaches each later one
-pub up-run : {g : Ground} {next stack starts parents : List ℕ} {size blocks : ℕ} → Trail g next stack starts parents size blocks → (p d : ℕ) → p + d < size → Way g (stack ! p) (stack ! (p + d))
+pub up-run : {g : Ground} {next stack starts parents : List ℕ} {size blocks : ℕ} → Trail g next stack starts parents size blocks → (p d : ℕ) → p + d < size
+    → Way g (stack ! p) (stack ! (p + d))
 up-run {g} {stack = stack} t p zero h = subst (λ (m : ℕ). Way g (stack ! p) (stack ! m)) (omega arith) here
 up-run {g} {stack = stack} t p (suc d) h =
     trans (up-run t p d (omega arith))
     (subst (λ (m : ℕ). Way g (stack ! (p + d)) (stack ! m)) (omega arith) (t .up (p + d) (omega arith)))
 
-pub up-to : {g : Ground} {next stack starts parents : List ℕ} {size blocks : ℕ} → Trail g next stack starts parents size blocks → (p q : ℕ) → p ≤ q → q < size → Way g (stack ! p) (stack ! q)
+pub up-to : {g : Ground} {next stack starts parents : List ℕ} {size blocks : ℕ} → Trail g next stack starts parents size blocks → (p q : ℕ) → p ≤ q → q < size
+    → Way g (stack ! p) (stack ! q)
 up-to {g} {stack = stack} t p q le lt = subst (λ (m : ℕ). Way g (stack ! p) (stack ! m)) (omega arith) (up-run t p (q - p) (omega arith))
 
 -- where no block starts after p and up to p + d, the later piece reaches the earlier

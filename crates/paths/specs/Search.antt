@@ -4,11 +4,12 @@ use mathlib.Core.List.{List}
 use mathlib.Core.Logic.{_⊎_}
 use Prim.Native.Nat.{ℕ, zero, suc, pred, _+_, _-_, _*_, _≤_, _<_}
 use lib.ListN.{length}
-use Rattle.paths.specs.Ground.{Ground, Way, Leads, _!_}
+use Rattle.rules.specs.Lists.{_!_}
+use Rattle.paths.specs.Ground.{Ground, Way, Leads}
 
 -- the mark of a finished piece; 0 is unseen, and q + 1 is on the stack at position q
-abbrev pub finished : ℕ
-finished = 65535
+abbrev pub finishedMark : ℕ
+finishedMark = 65535
 
 -- how many of the first n entries are not 0
 unfoldable pub sign : ℕ → ℕ
@@ -28,7 +29,7 @@ rest l (suc n) = (4 - l ! n) + rest l n
 pub record Stack (g : Ground) (marks stack : List ℕ) (size : ℕ) : Type 0 where
   pub stack-lt : (q : ℕ) → q < size → stack ! q < g .n
   pub stack-marks : (q : ℕ) → q < size → marks ! (stack ! q) ≡ suc q
-  pub marks-stack : (v : ℕ) → v < g .n → (marks ! v ≡ 0 → ⊥) → (marks ! v ≡ finished → ⊥) → (q : ℕ) × (marks ! v ≡ suc q) × (q < size) × (stack ! q ≡ v)
+  pub marks-stack : (v : ℕ) → v < g .n → (marks ! v ≡ 0 → ⊥) → (marks ! v ≡ finishedMark → ⊥) → (q : ℕ) × (marks ! v ≡ suc q) × (q < size) × (stack ! q ≡ v)
   pub inside : (v : ℕ) → v < g .n → (marks ! v ≡ 0 → ⊥) → g .state v ≡ g .class
   pub few : size ≤ count marks (g .n)
 
@@ -56,12 +57,17 @@ pub record Explored (g : Ground) (marks next stack starts : List ℕ) (size bloc
   pub seen : (q : ℕ) → q < size → (j : ℕ) → j < next ! (stack ! q) → g .at (stack ! q) j < g .n → g .state (g .at (stack ! q) j) ≡ g .class
       → (i : ℕ) → i < blocks → starts ! i ≤ q → starts ! i < marks ! (g .at (stack ! q) j)
 
+-- what is finished is closed under the links
+abbrev pub MarksClosed : Ground → List ℕ → Type 0
+MarksClosed g marks =
+    (x : ℕ) → x < g .n → marks ! x ≡ finishedMark → (j : ℕ) → j < 4 → g .at x j < g .n → g .state (g .at x j) ≡ g .class → marks ! (g .at x j) ≡ finishedMark
+
 -- what is finished is closed under the links, has its leader, and was finished before or is reached from the root
 pub record Ends (g : Ground) (old marks leaders : List ℕ) (root : ℕ) : Type 0 where
-  pub closed : (x : ℕ) → x < g .n → marks ! x ≡ finished → (j : ℕ) → j < 4 → g .at x j < g .n → g .state (g .at x j) ≡ g .class → marks ! (g .at x j) ≡ finished
-  pub exact : (x : ℕ) → x < g .n → marks ! x ≡ finished → Leads g x (leaders ! x)
-  pub «from» : (x : ℕ) → x < g .n → marks ! x ≡ finished → (old ! x ≡ finished) ⊎ Way g root x
-  pub kept : (x : ℕ) → x < g .n → old ! x ≡ finished → marks ! x ≡ finished
+  pub closed : MarksClosed g marks
+  pub exact : (x : ℕ) → x < g .n → marks ! x ≡ finishedMark → Leads g x (leaders ! x)
+  pub «from» : (x : ℕ) → x < g .n → marks ! x ≡ finishedMark → (old ! x ≡ finishedMark) ⊎ Way g root x
+  pub kept : (x : ℕ) → x < g .n → old ! x ≡ finishedMark → marks ! x ≡ finishedMark
 
 -- the search stands at a position of the last block; every piece above it is explored
 pub record Standing (g : Ground) (next stack starts : List ℕ) (root size blocks stand : ℕ) : Type 0 where
@@ -80,7 +86,7 @@ pub record Regions : Type 0 where
   pub starts : List ℕ
   pub parents : List ℕ
 
-pub record Sizes (n : ℕ) (s : Regions) : Type 0 where
+pub record RegionsSized (n : ℕ) (s : Regions) : Type 0 where
   pub marks-n : length (s .marks) ≡ n
   pub next-n : length (s .next) ≡ n
   pub leaders-n : length (s .leaders) ≡ n
@@ -91,7 +97,7 @@ pub record Sizes (n : ℕ) (s : Regions) : Type 0 where
 -- what holds wherever the search stands
 pub record Steady (g : Ground) (old : List ℕ) (root : ℕ) (s : Regions) (size blocks : ℕ) : Type 0 where
   pub small : g .n ≤ 1024
-  pub sizes : Sizes (g .n) s
+  pub sizes : RegionsSized (g .n) s
   pub stack : Stack g (s .marks) (s .stack) size
   pub bounds : Starts (s .starts) size blocks
   pub trail : Trail g (s .next) (s .stack) (s .starts) (s .parents) size blocks
@@ -107,19 +113,19 @@ pub record Invariant (g : Ground) (old : List ℕ) (root : ℕ) (s : Regions) (s
 -- between two searches: each piece is unseen or finished
 pub record Calm (g : Ground) (marks next leaders : List ℕ) : Type 0 where
   pub small : g .n ≤ 1024
-  pub either : (v : ℕ) → v < g .n → (marks ! v ≡ 0) ⊎ (marks ! v ≡ finished)
-  pub inside : (v : ℕ) → v < g .n → marks ! v ≡ finished → g .state v ≡ g .class
+  pub either : (v : ℕ) → v < g .n → (marks ! v ≡ 0) ⊎ (marks ! v ≡ finishedMark)
+  pub inside : (v : ℕ) → v < g .n → marks ! v ≡ finishedMark → g .state v ≡ g .class
   pub four : (v : ℕ) → v < g .n → next ! v ≤ 4
   pub fresh : (v : ℕ) → v < g .n → marks ! v ≡ 0 → next ! v ≡ 0
-  pub closed : (x : ℕ) → x < g .n → marks ! x ≡ finished → (j : ℕ) → j < 4 → g .at x j < g .n → g .state (g .at x j) ≡ g .class → marks ! (g .at x j) ≡ finished
-  pub exact : (x : ℕ) → x < g .n → marks ! x ≡ finished → Leads g x (leaders ! x)
+  pub closed : MarksClosed g marks
+  pub exact : (x : ℕ) → x < g .n → marks ! x ≡ finishedMark → Leads g x (leaders ! x)
 
 -- what a search from root has done
 pub record Visited (g : Ground) (old marks next leaders : List ℕ) (root : ℕ) : Type 0 where
   pub calm : Calm g marks next leaders
-  pub kept : (x : ℕ) → x < g .n → old ! x ≡ finished → marks ! x ≡ finished
-  pub reached : (x : ℕ) → x < g .n → g .state x ≡ g .class → Way g root x → marks ! x ≡ finished
-  pub «only» : (x : ℕ) → x < g .n → marks ! x ≡ finished → (old ! x ≡ finished) ⊎ Way g root x
+  pub kept : (x : ℕ) → x < g .n → old ! x ≡ finishedMark → marks ! x ≡ finishedMark
+  pub reached : (x : ℕ) → x < g .n → g .state x ≡ g .class → Way g root x → marks ! x ≡ finishedMark
+  pub «only» : (x : ℕ) → x < g .n → marks ! x ≡ finishedMark → (old ! x ≡ finishedMark) ⊎ Way g root x
 
 -- the height of the search: falls with each step that explores no place
 abbrev pub height : ℕ → ℕ → ℕ

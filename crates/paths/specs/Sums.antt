@@ -4,9 +4,9 @@ use mathlib.Core.List.{List}
 use mathlib.Core.Logic.{⊎-elim}
 use Prim.Native.Nat.{ℕ, zero, suc, _≤_, _<_}
 use native.Mathlib.Omega.{arith}
-use Rattle.paths.specs.Ground.{_!_}
+use Rattle.rules.specs.Lists.{_!_}
+use Rattle.laws.specs.Numbers.{lt-or}
 use Rattle.paths.specs.Search.{sign, count, rest}
-use Rattle.paths.specs.Tools.{lt-or}
 
 pub sign-le : (x : ℕ) → sign x ≤ 1
 unfolding sign

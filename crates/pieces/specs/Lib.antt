@@ -3,3 +3,4 @@ pub mod Numbers
 pub mod Looks
 pub mod Parts
 pub mod Told
+pub mod Histories

@@ -1,5 +1,5 @@
 -- An accepted look is of sound tables: its holds and its count are small, so its number fits.
-use mathlib.Core.Path.{_≡_, refl, sym, ap, _∙_, subst}
+use mathlib.Core.Path.{_≡_, refl, ap, subst}
 use mathlib.Core.Logic.{⊎-elim}
 use mathlib.Core.List.{List}
 use Prim.Native.Nat.{ℕ, _≤_, _<_}
@@ -17,7 +17,7 @@ use Rattle.rules.specs.declared.Seen.{Seen}
 use Rattle.rules.specs.declared.Seen.the-variants.{Piece, Unseen}
 use Rattle.laws.specs.Sound.{isSound→}
 use Rattle.laws.specs.Calls.{lent-sized, accepted-judged, accepted-outcome, judged}
-use Rattle.tallies.specs.Sums.{lt-or}
+use Rattle.laws.specs.Numbers.{lt-or}
 use Rattle.tallies.specs.Stores.{holds-most, counts-most}
 
 -- The largest possible count is below 1,028,097; 1,000 holds a piece
@@ -26,14 +26,14 @@ pub record Fitting (s : Seen) : Type 0 where
   pub holds : seenValuesOf s .holds ≤ mostHolds
 
 -- what holds of each entry holds past the end, where 0 stands
-pub past : (l : List ℕ) (n m : ℕ) → length l ≡ n → ((i : ℕ) → i < n → getD l i 0 ≤ m) → (i : ℕ) → getD l i 0 ≤ m
-past l n m e h i = ⊎-elim (λ x. h i x) (λ x. let z = List·getD-eq-default l 0 {n = i} (omega arith) in omega arith) (lt-or i n)
+pub past : (l : List ℕ) (m : ℕ) {n : ℕ} → length l ≡ n → ((i : ℕ) → i < n → getD l i 0 ≤ m) → (i : ℕ) → getD l i 0 ≤ m
+past l m {n} e h i = ⊎-elim (λ x. h i x) (λ x. let z = List·getD-eq-default l 0 {n = i} (omega arith) in omega arith) (lt-or i n)
 
-pub seen-fitting : (s : Store) → Ready s → (p : ℕ) → Fitting (seenAt s p)
+pub seen-fitting : {s : Store} → Ready s → (p : ℕ) → Fitting (seenAt s p)
 unfolding seenAt holdsOf
-seen-fitting s o p = record {
-  count = let h = past (s .counts) (s .base .n) 1028096 (o .sized .counts) (λ i l. let y = counts-most s o i l in omega arith) (getD (s .leaders) p 0) in omega arith;
-  holds = past (s .base .holds) (s .base .n) 1000 (o .sized .base .holds) (λ i l. holds-most s o i l) p;
+seen-fitting {s} o p = record {
+  count = omega (arith, past (s .counts) 1028096 (o .sized .counts) (λ i l. omega (arith, counts-most s o i l)) (getD (s .leaders) p 0));
+  holds = past (s .base .holds) 1000 (o .sized .base .holds) (λ i l. holds-most s o i l) p;
 }
 
 -- an accepted command's call is lent sound tables
@@ -47,12 +47,10 @@ accepted-ready a c e =
 accepted-saw : (a : Areas) (p : ℕ) → judge a (does (Look p)) ≡ accepted → outcomeOf a (does (Look p)) .reply ≡ saw (seenAt (a .store) p)
 accepted-saw a p e = rw (accepted-outcome a (does (Look p)) e) (unfold acceptedCall cleared acceptedBy in refl)
 
-seen-of : (s s′ : Seen) → saw s ≡ saw s′ → s ≡ s′
-seen-of s s′ e = cc e
-
-fits-by : (a after : Areas) (p : ℕ) (s : Seen) → Promise (does (Look p)) a (outcome (saw s) after) → Fitting s
-fits-by a after p (Unseen r) q = record { count = omega arith; holds = omega arith }
-fits-by a after p (Piece s l c h) q = subst Fitting (sym (seen-of (Piece s l c h) (seenAt (a .store) p) (e ∙ accepted-saw a p j))) (seen-fitting (a .store) (accepted-ready a (Look p) j) p)
+-- what look answers fits its number
+pub look-fits : {a after : Areas} {p : ℕ} {s : Seen} → Promise (does (Look p)) a (outcome (saw s) after) → Fitting s
+look-fits {s = Unseen r} q = record { count = omega arith; holds = omega arith }
+look-fits {a} {p = p} {s = Piece s l c h} q = rw same (seen-fitting (accepted-ready a (Look p) j) p)
   where
     e : saw (Piece s l c h) ≡ outcomeOf a (does (Look p)) .reply
     e = ap (λ (o : Outcome). o .reply) (q .exact)
@@ -60,6 +58,5 @@ fits-by a after p (Piece s l c h) q = subst Fitting (sym (seen-of (Piece s l c h
     j : judge a (does (Look p)) ≡ accepted
     j = accepted-judged a (does (Look p)) (subst (λ (r : Reply). T (isAccepted r)) e (unfold isAccepted in tt))
 
--- what look answers fits its number
-pub look-fits : {a after : Areas} {p : ℕ} {s : Seen} → Promise (does (Look p)) a (outcome (saw s) after) → Fitting s
-look-fits {a} {after} {p} {s} q = fits-by a after p s q
+    same : Piece s l c h ≡ seenAt (a .store) p
+    same = cc (e, accepted-saw a p j)

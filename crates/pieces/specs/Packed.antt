@@ -15,13 +15,13 @@ packedSeen v = v .refusal + 256 * v .state + 65536 * v .leader + 4294967296 * v 
 abbrev pub packedChecked : CheckedValues → ℕ
 packedChecked v = v .refusal + 65536 * v .yes
 
--- the number of a reply, from 01's number and values
+-- the number of a reply, from the rulebook's number and values
 abbrev pub packed : Reply → ℕ
 packed (answered a) = packedValues (valuesOf a)
 packed (saw s) = packedSeen (seenValuesOf s)
 packed (checked c) = packedChecked (checkedValuesOf c)
 
--- The promise of every call through this door, for all areas: the u64 is the number of 01's reply, and every area on return is what 01 gives
+-- The promise of every call through this door, for all areas: the u64 is the number of the rulebook's reply, and every area on return is what the rules give
 pub record Packs (c : Call) (before : Areas) (r : ℕ) (after : Areas) : Type 0 where
   pub answer : r ≡ packed (outcomeOf before c .reply)
   pub areas : after ≡ outcomeOf before c .areas

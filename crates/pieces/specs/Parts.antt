@@ -1,9 +1,10 @@
 -- Each part of a reply's number fits its bits: numbers of refusals, values, states and leaders are small.
 use mathlib.Core.Path.{_≡_}
 use mathlib.Core.Logic.{⊎-elim}
-use mathlib.Core.Bool.{Bool, true, false}
+use mathlib.Core.Bool.{Bool, true, false, not}
 use Prim.Native.Nat.{ℕ, zero, suc, _+_, _≤_, _<_}
 use native.Mathlib.Omega.{arith}
+use lib.Dec.{T}
 use lib.ListN.{getD}
 use Rattle.rules.specs.Tests.{pick}
 use Rattle.rules.specs.Limits.{none}
@@ -50,10 +51,10 @@ unfolding firstFree lowest
 free-fits b h = lowest-fits 0 _ (b .n) (omega arith) (omega arith) (omega arith)
 
 -- what look sees in sound tables
-module _ (s : Store) (o : Ready s) where
+module _ {s : Store} (o : Ready s) where
   pub state-fits : (p : ℕ) → state (s .base) p ≤ 2
   unfolding state
-  state-fits = past (s .base .states) (s .base .n) 2 (o .sized .base .states) (λ i l. go i (wells-of s o i l))
+  state-fits = past (s .base .states) 2 (o .sized .base .states) (λ i l. go i (wells-of s o i l))
     where
       go : (i : ℕ) → Well (s .base) i → getD (s .base .states) i 0 ≤ 2
       go i (wfree w) = omega (arith, w .is)
@@ -61,10 +62,13 @@ module _ (s : Store) (o : Ready s) where
       go i (wfrozen w) = omega (arith, w .is)
 
   pub leader-fits : (p : ℕ) → getD (s .leaders) p 0 ≤ none
-  leader-fits = past (s .leaders) (s .base .n) none (o .sized .leaders) (λ i l. ⊎-elim (λ t. led i l (isFrozen→ (s .base) i l t)) (λ t. omega (arith, at i l, leaderEntry-other (s .base) i t)) (T-dec (isFrozen (s .base) i)))
+  leader-fits = past (s .leaders) none (o .sized .leaders) (λ i l. ⊎-elim (λ t. led i l (isFrozen→ (s .base) i l t)) (other i l) (T-dec (isFrozen (s .base) i)))
     where
       at : (i : ℕ) → i < s .base .n → getD (s .leaders) i 0 ≡ leaderEntry (s .base) i
       at i l = sound→entries s (o .sound) .leaders i l
 
       led : (i : ℕ) → i < s .base .n → Frozen (s .base) i → getD (s .leaders) i 0 ≤ none
       led i l f = omega (arith, at i l, leaderEntry-frozen (s .base) i (f .is), leaderOf-is (s .base) i f .member .frozen .below, o .sized .base .most)
+
+      other : (i : ℕ) → i < s .base .n → T (not (isFrozen (s .base) i)) → getD (s .leaders) i 0 ≤ none
+      other i l t = omega (arith, at i l, leaderEntry-other (s .base) i t)

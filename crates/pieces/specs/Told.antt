@@ -1,4 +1,4 @@
--- The u64 of every call tells 01's number and values: each part stands in its own bits.
+-- The u64 of every call tells the rulebook's number and values: each part stands in its own bits.
 use mathlib.Core.Path.{_≡_, refl, sym, subst}
 use mathlib.Core.Bool.{Bool, true, false}
 use Prim.Native.Nat.{ℕ, _/_, _%_, _≤_, _<_}
@@ -7,7 +7,8 @@ use Rattle.rules.specs.Tests.{pick}
 use Rattle.rules.specs.Limits.{none}
 use Rattle.rules.specs.Tables.{Store, state, isSound}
 use Rattle.rules.specs.Commands.{Verdict, accepted, refused, firstFree, valueOf}
-use Rattle.rules.specs.Calls.{Call, start, does, check, Areas, Values, valuesOf, SeenValues, seenValuesOf, CheckedValues, checkedValuesOf, Reply, answered, saw, checked, refusedBy, refusedCall, seenAt, doneBy, acceptedBy, judge, cleared, acceptedCall, ended, outcomeOf, Ready}
+use Rattle.rules.specs.Calls.{Values, valuesOf, SeenValues, seenValuesOf, CheckedValues, checkedValuesOf, Reply, answered, saw, checked}
+use Rattle.rules.specs.Calls.{Call, start, does, check, Areas, Ready, judge, refusedBy, refusedCall, seenAt, doneBy, acceptedBy, cleared, acceptedCall, ended, outcomeOf}
 use Rattle.rules.specs.declared.Refusal.{Refusal}
 use Rattle.rules.specs.declared.Command.the-variants.{New, Set, Freeze, Acquire, Release, Bin, Look}
 use Rattle.rules.specs.declared.Answer.{Answer}
@@ -75,9 +76,9 @@ refused-told r check = checked-told (Unchecked r) (number-fits r) (omega arith)
 done-told : (v f : ℕ) → v ≤ none → Told (packed (answered (Done v f))) (answered (Done v f))
 done-told v f h = answer-told (Done v f) (omega arith) h
 
-saw-told : (s : Store) → Ready s → (p : ℕ) → Told (packed (saw (seenAt s p))) (saw (seenAt s p))
+saw-told : {s : Store} → Ready s → (p : ℕ) → Told (packed (saw (seenAt s p))) (saw (seenAt s p))
 unfolding seenAt
-saw-told s o p = seen-told (seenAt s p) (omega arith) (state-fits s o p) (leader-fits s o p) (seen-fitting s o p)
+saw-told {s} o p = seen-told (seenAt s p) (omega arith) (state-fits o p) (leader-fits o p) (seen-fitting o p)
 
 checks-told : (b : Bool) → Told (packed (checked (pick b Yes No))) (checked (pick b Yes No))
 checks-told true = checked-told Yes (omega arith) (omega arith)
@@ -92,7 +93,7 @@ accepted-told a (does (Freeze p)) e = done-told none _ (omega arith)
 accepted-told a (does (Acquire p)) e = done-told none _ (omega arith)
 accepted-told a (does (Release p)) e = done-told none _ (omega arith)
 accepted-told a (does (Bin p)) e = done-told none _ (omega arith)
-accepted-told a (does (Look p)) e = saw-told (a .store) (accepted-ready a (Look p) e) p
+accepted-told a (does (Look p)) e = saw-told (accepted-ready a (Look p) e) p
 accepted-told a check e = checks-told (isSound (a .store))
 
 outcome-told : (a : Areas) (c : Call) → Told (packed (outcomeOf a c .reply)) (outcomeOf a c .reply)
@@ -103,6 +104,6 @@ outcome-told a c = go (judge a c) refl
     go accepted e = unfold ended in (accepted-told a c e)
     go (refused r) e = unfold ended in (refused-told r c)
 
--- the u64 of every call tells the number and values of 01's reply
+-- the u64 of every call tells the number and values of the rulebook's reply
 pub number-tells : {c : Call} {a after : Areas} {r : ℕ} → Packs c a r after → Told r (outcomeOf a c .reply)
 number-tells {c} {a} q = subst (λ (x : ℕ). Told x (outcomeOf a c .reply)) (sym (q .answer)) (outcome-told a c)

@@ -1,7 +1,8 @@
-// The door for C: the nine calls, each with N, the areas in 01's order, then P, K, T. Each answers one u64.
+// The door for C: the nine calls, each with N, the areas in the rulebook's order, then P, K, T. Each answers one u64.
 ghost use mathlib.Core.Path.{_≡_};
 ghost use mathlib.Core.List.{[]};
-ghost use Rattle.rules.specs.Calls.{start, does, check, storeOf, areasOf};
+ghost use Rattle.rules.specs.Tables.{storeOf};
+ghost use Rattle.rules.specs.Calls.{start, does, check, areasOf};
 ghost use Rattle.rules.specs.declared.Command.the-variants.{New, Set, Freeze, Acquire, Release, Bin, Look};
 ghost use Rattle.rules.specs.Trace.{lentTrace};
 ghost use Rattle.lending.specs.Lent.{given};

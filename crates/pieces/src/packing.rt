@@ -38,7 +38,7 @@ pub fn pack(answer: Answer) -> u64
 {
     match answer {
         Answer::Done { value, freed } => join(0, value, freed),
-        Answer::Refused(refusal) => join(answers::refusal_number(refusal), Store::NONE, 0),
+        Answer::Refused(refusal) => join(rules::refusal_number(refusal), Store::NONE, 0),
     }
 }
 
@@ -54,7 +54,7 @@ pub fn pack_seen(seen: Seen) -> u64
             count,
             holds,
         } => join_seen(0, state, leader, count, holds),
-        Seen::Unseen(refusal) => join_seen(answers::refusal_number(refusal), 0, Store::NONE, 0, 0),
+        Seen::Unseen(refusal) => join_seen(rules::refusal_number(refusal), 0, Store::NONE, 0, 0),
     }
 }
 
@@ -65,6 +65,6 @@ pub fn pack_checked(answer: Checked) -> u64
     match answer {
         Checked::Yes => join(0, 1, 0),
         Checked::No => join(0, 0, 0),
-        Checked::Unchecked(refusal) => join(answers::refusal_number(refusal), 0, 0),
+        Checked::Unchecked(refusal) => join(rules::refusal_number(refusal), 0, 0),
     }
 }

@@ -5,44 +5,46 @@ use mathlib.Core.List.{List, [], _∷_, _++_, append-assoc}
 use Prim.Native.Nat.{ℕ, zero, suc, _+_, _-_, _≤_, _<_}
 use native.Mathlib.Omega.{arith}
 use lib.ListN.{length, take, drop, length-append, length-drop}
-use lib.Seq.{sets, sets-eq, take-append-seam, take-all, drop-drop, length-take-le}
+use lib.Seq.{sets-eq, take-append-seam, take-all, drop-drop, length-take-le}
 use Rattle.rules.specs.Tables.{Store}
 use Rattle.rules.specs.Trace.{linesFrom, says, answerTo, storeAfter, outputOf, badLine}
 use Rattle.rules.specs.declared.Command.{Command}
 use Rattle.rules.specs.declared.Line.{Line}
-use Rattle.rules.specs.declared.Line.the-variants.{Does, Bad}
+use Rattle.rules.specs.declared.Line.the-variants.{Does}
 use Rattle.lines.specs.Ending.{Closed, Reads}
 use Rattle.lines.specs.declared.Found.{Found}
 use Rattle.lines.specs.declared.Found.the-variants.{Other}
 use Rattle.chunks.specs.Chunks.{lines-part, lines-end}
-use Rattle.answers.specs.Wrote.{Wrote}
+use Rattle.answers.specs.Wrote.{longest, Wrote}
 use Rattle.reader.specs.Answered.{Stands, Answered, bad-answered}
 use Rattle.reader.specs.Lines.{LineEnd, OneLine, RightLine, line-at, bad-at, closed-drop}
 
 -- `taken` bytes of the text are answered by the first `written` bytes of out, and the store stands
-pub record Feeding (n : ℕ) (s : Store) (text : List ℕ) (s′ : Store) (l′ w′ out′ : List ℕ) (taken written from′ : ℕ) : Type 0 where
+pub record Feeding (n : ℕ) (s : Store) (text : List ℕ) (s′ : Store) (l′ w′ out′ : List ℕ) (taken written from : ℕ) : Type 0 where
   pub inside : taken ≤ length text
   pub room : written ≤ length out′
   pub none : taken ≡ 0 → written ≡ 0
-  pub stands : Stands n s′ l′ w′ from′
-  pub exact : (rest : List ℕ) → outputOf s (linesFrom [] (text ++ rest)) ≡ take written out′ ++ outputOf s′ (linesFrom [] (drop taken text ++ rest))
+  pub stands : Stands n s′ l′ w′ from
+  pub exact : (rest : List ℕ)
+      → outputOf s (linesFrom [] (text ++ rest)) ≡ take written out′ ++ outputOf s′ (linesFrom [] (drop taken text ++ rest))
 
 -- the whole text is answered, or there is no room for the longest line
 abbrev pub Stopped : List ℕ → List ℕ → ℕ → ℕ → Type 0
-Stopped text out taken written = (taken ≡ length text) ⊎ (length out < written + 6208)
+Stopped text out taken written = (taken ≡ length text) ⊎ (length out < written + longest)
 
 -- ---- laws
 
-pub feeding-none : (n : ℕ) (s : Store) (text l w out : List ℕ) (from : ℕ) → Stands n s l w from → Feeding n s text s l w out 0 0 from
-feeding-none n s text l w out from st = record { inside = omega arith; room = omega arith; none = λ _. refl; stands = st; exact = λ rest. refl }
+pub feeding-none : {n : ℕ} {s : Store} {text l w out : List ℕ} {from : ℕ} → Stands n s l w from → Feeding n s text s l w out 0 0 from
+feeding-none stands = record { inside = omega arith; room = omega arith; none = λ _. refl; stands = stands; exact = λ rest. refl }
 
--- what was written before stands in front of the new bytes
-pub wrote-front : (out bytes out′ : List ℕ) (at next : ℕ) → Wrote out at bytes out′ next → next ≤ length out → take next out′ ≡ take at out ++ bytes
-wrote-front out bytes out′ at next w h =
+-- what was written before stands in front of the bytes that are written
+pub wrote-front : {out bytes out′ : List ℕ} {at next : ℕ} → Wrote out at bytes out′ next → next ≤ length out → take next out′ ≡ take at out ++ bytes
+wrote-front {out} {bytes} {out′} {at} {next} w h =
     let p = w .place in
     let k : at + length bytes ≤ length out = omega arith in
     ap (take next) (w .room ∙ sets-eq bytes out at k)
-    ∙ ap (λ (m : ℕ). take m ((take at out ++ bytes) ++ drop (at + length bytes) out)) size ∙ take-append-seam (take at out ++ bytes) (drop (at + length bytes) out)
+    ∙ ap (λ (m : ℕ). take m ((take at out ++ bytes) ++ drop (at + length bytes) out)) size
+    ∙ take-append-seam (take at out ++ bytes) (drop (at + length bytes) out)
   where
     size : next ≡ length (take at out ++ bytes)
     size =
@@ -51,40 +53,48 @@ wrote-front out bytes out′ at next w h =
         omega (arith, length-append (take at out) bytes)
 
 -- a line at a place of the text
-module _ (text : List ℕ) (at next : ℕ) (line : List ℕ) (o : OneLine text at next line) where
-  one-line : (s : Store) (rest : List ℕ) → outputOf s (linesFrom [] (drop at text ++ rest)) ≡ answerTo s (says line) ++ outputOf (storeAfter s (says line)) (linesFrom [] (drop next text ++ rest))
-  unfolding outputOf
-  one-line s rest =
-      ap (λ (t : List ℕ). outputOf s (linesFrom [] (t ++ rest))) (o .is)
-      ∙ ap (λ (t : List ℕ). outputOf s (linesFrom [] t)) (append-assoc line (10 ∷ drop next text) rest)
-      ∙ ap (outputOf s) (lines-part [] line (10 ∷ (drop next text ++ rest)) (o .unended) ∙ lines-end line (drop next text ++ rest))
+one-line : {text line : List ℕ} {at next : ℕ} → OneLine text at next line → (s : Store) (rest : List ℕ)
+    → outputOf s (linesFrom [] (drop at text ++ rest))
+    ≡ answerTo s (says line) ++ outputOf (storeAfter s (says line)) (linesFrom [] (drop next text ++ rest))
+unfolding outputOf
+one-line {text} {line} {at} {next} o s rest =
+    ap (λ (t : List ℕ). outputOf s (linesFrom [] (t ++ rest))) (o .is)
+    ∙ ap (λ (t : List ℕ). outputOf s (linesFrom [] t)) (append-assoc line (10 ∷ drop next text) rest)
+    ∙ ap (outputOf s) (lines-part [] line (10 ∷ (drop next text ++ rest)) (o .unended) ∙ lines-end line (drop next text ++ rest))
 
-  -- one line more
-  pub feeding-more : (n : ℕ) (s₀ s : Store) (l w out : List ℕ) (written low : ℕ) → Feeding n s₀ text s l w out at written low
-      → (s′ : Store) (l′ w′ out′ : List ℕ) (to low′ : ℕ) → length out′ ≡ length out → written + 6208 ≤ length out → (said : Line) → says line ≡ said → Answered n s said out written s′ l′ w′ out′ to low′ → Feeding n s₀ text s′ l′ w′ out′ next to low′
-  feeding-more n s₀ s l w out written low f s′ l′ w′ out′ to low′ len room said e b = record {
-    inside = o .inside;
-    room = let x = a .few in omega arith;
-    none = λ x. absurd (let y = o .less in omega arith);
-    stands = a .stands;
-    exact = λ rest.
-        f .exact rest ∙ ap (λ (t : List ℕ). take written out ++ t) (one-line s rest) ∙ sym (append-assoc (take written out) (answerTo s (says line)) (outputOf (storeAfter s (says line)) (linesFrom [] (drop next text ++ rest))))
-        ∙ ap (λ (t : List ℕ). t ++ outputOf (storeAfter s (says line)) (linesFrom [] (drop next text ++ rest))) (sym (wrote-front out (answerTo s (says line)) out′ written to (a .wrote) (let x = a .few in omega arith)))
-        ∙ ap (λ (t : Store). take to out′ ++ outputOf t (linesFrom [] (drop next text ++ rest))) (sym (a .store));
-  }
-    where
-      a : Answered n s (says line) out written s′ l′ w′ out′ to low′
-      a = subst (λ (x : Line). Answered n s x out written s′ l′ w′ out′ to low′) (sym e) b
+-- one line more
+feeding-more : {text line : List ℕ} {at next : ℕ} {n : ℕ} {s₀ s s′ : Store} {l l′ w w′ out out′ : List ℕ} {written written′ from from′ : ℕ} {said : Line}
+    → OneLine text at next line → says line ≡ said → Feeding n s₀ text s l w out at written from → written + longest ≤ length out
+    → length out′ ≡ length out → Answered n s said out written s′ l′ w′ out′ written′ from′
+    → Feeding n s₀ text s′ l′ w′ out′ next written′ from′
+feeding-more {text} {line} {next = next} {n} {s = s} {s′} {l′ = l′} {w′ = w′} {out} {out′} {written} {written′} {from′ = from′} o e f room len b =
+    record {
+      inside = o .inside;
+      room = let x = a .few in omega arith;
+      none = λ x. absurd (let y = o .less in omega arith);
+      stands = a .stands;
+      exact = λ rest.
+          f .exact rest ∙ ap (λ (t : List ℕ). take written out ++ t) (one-line o s rest)
+          ∙ sym (append-assoc (take written out) (answerTo s (says line)) (later (storeAfter s (says line)) rest))
+          ∙ ap (λ (t : List ℕ). t ++ later (storeAfter s (says line)) rest) (sym (wrote-front (a .wrote) (let x = a .few in omega arith)))
+          ∙ ap (λ (t : Store). take written′ out′ ++ later t rest) (sym (a .store));
+    }
+  where
+    a : Answered n s (says line) out written s′ l′ w′ out′ written′ from′
+    a = subst (λ (x : Line). Answered n s x out written s′ l′ w′ out′ written′ from′) (sym e) b
+
+    later : Store → List ℕ → List ℕ
+    later t rest = outputOf t (linesFrom [] (drop next text ++ rest))
 
 -- a right line more, or a bad one
-module _ (text : List ℕ) (at : ℕ) (n : ℕ) (s₀ s : Store) (l w out : List ℕ) (written low : ℕ) (f : Feeding n s₀ text s l w out at written low) (room : written + 6208 ≤ length out) (r : Found) (h : Reads text at r) where
-  pub feeding-right : (c : Command) (next : ℕ) → RightLine text at next c → (s′ : Store) (l′ w′ out′ : List ℕ) (to low′ : ℕ) → length out′ ≡ length out → Answered n s (Does c) out written s′ l′ w′ out′ to low′ → Feeding n s₀ text s′ l′ w′ out′ next to low′
-  feeding-right c next x s′ l′ w′ out′ to low′ len a = feeding-more text at next (x .line) (x .one) n s₀ s l w out written low f s′ l′ w′ out′ to low′ len room (Does c) (x .says-is) a
+module _ {n : ℕ} {s₀ s : Store} {text l w out : List ℕ} {at written from : ℕ} (f : Feeding n s₀ text s l w out at written from) (room : written + longest ≤ length out) where
+  pub feeding-right : {c : Command} {s′ : Store} {l′ w′ out′ : List ℕ} {next written′ from′ : ℕ} → RightLine text at next c → length out′ ≡ length out
+      → Answered n s (Does c) out written s′ l′ w′ out′ written′ from′ → Feeding n s₀ text s′ l′ w′ out′ next written′ from′
+  feeding-right x len a = feeding-more (x .one) (x .says-is) f room len a
 
-  pub feeding-bad : r ≡ Other → (end : ℕ) → LineEnd text at end → (out′ : List ℕ) (to : ℕ) → length out′ ≡ length out → Wrote out written badLine out′ to → to ≤ written + 6208 → Feeding n s₀ text s l w out′ (end + 1) to low
-  feeding-bad x end e out′ to len b few =
-      feeding-more text at (end + 1) (take (end - at) (drop at text)) (line-at text at end e) n s₀ s l w out written low f s l w out′ to low len room Bad (bad-at text at end e r h x)
-      (bad-answered n s l w low (f .stands) out out′ written to b few Bad refl)
+  pub feeding-bad : {r : Found} {out′ : List ℕ} {end written′ : ℕ} → Reads text at r → r ≡ Other → LineEnd text at end → length out′ ≡ length out
+      → Wrote out written badLine out′ written′ → Feeding n s₀ text s l w out′ (end + 1) written′ from
+  feeding-bad h x e len b = feeding-more (line-at e) (bad-at e h x) f room len (bad-answered (f .stands) b)
 
 -- ---- a text that is fed part by part: the part from a place to its end
 
@@ -94,23 +104,28 @@ part-is text at = take-all (length text - at) (drop at text) (omega (arith, leng
 pub part-closed : (text : List ℕ) (at : ℕ) → Closed text → Closed (take (length text - at) (drop at text))
 part-closed text at c = subst Closed (sym (part-is text at)) (closed-drop text at c)
 
-module _ (text : List ℕ) (at : ℕ) (l : at < length text) (n : ℕ) (s s′ : Store) (l′ w′ out : List ℕ) (taken written from′ : ℕ) (f : Feeding n s (take (length text - at) (drop at text)) s′ l′ w′ out taken written from′) where
+module _ (text : List ℕ) (at : ℕ) (l : at < length text) {n : ℕ} {s s′ : Store} {l′ w′ out : List ℕ} {taken written from : ℕ}
+    (f : Feeding n s (take (length text - at) (drop at text)) s′ l′ w′ out taken written from) where
   pub fed-inside : at + taken ≤ length text
   fed-inside = omega (arith, subst (λ (t : List ℕ). taken ≤ length t) (part-is text at) (f .inside), length-drop at text)
 
-  pub fed-exact : (rest : List ℕ) → outputOf s (linesFrom [] (drop at text ++ rest)) ≡ take written out ++ outputOf s′ (linesFrom [] (drop (at + taken) text ++ rest))
+  pub fed-exact : (rest : List ℕ)
+      → outputOf s (linesFrom [] (drop at text ++ rest)) ≡ take written out ++ outputOf s′ (linesFrom [] (drop (at + taken) text ++ rest))
   fed-exact rest =
-      subst (λ (t : List ℕ). outputOf s (linesFrom [] (t ++ rest)) ≡ take written out ++ outputOf s′ (linesFrom [] (drop taken t ++ rest))) (part-is text at) (f .exact rest)
+      subst Exact (part-is text at) (f .exact rest)
       ∙ ap (λ (t : List ℕ). take written out ++ outputOf s′ (linesFrom [] (t ++ rest))) (drop-drop taken at text)
+    where
+      Exact : List ℕ → Type 0
+      Exact t = outputOf s (linesFrom [] (t ++ rest)) ≡ take written out ++ outputOf s′ (linesFrom [] (drop taken t ++ rest))
 
   -- each time some of the text is taken
-  pub fed-on : 6208 ≤ length out → Stopped (take (length text - at) (drop at text)) out taken written → 0 < taken
+  pub fed-on : longest ≤ length out → Stopped (take (length text - at) (drop at text)) out taken written → 0 < taken
   fed-on room stop =
       ⊎-elim
       (λ e. let x : taken ≡ length (drop at text) = e ∙ ap length (part-is text at) in omega (arith, length-drop at text))
       (λ e. some taken e (f .none))
       stop
     where
-      some : (t : ℕ) → length out < written + 6208 → (t ≡ 0 → written ≡ 0) → 0 < t
+      some : (t : ℕ) → length out < written + longest → (t ≡ 0 → written ≡ 0) → 0 < t
       some zero e h = absurd (let x : written ≡ 0 = h refl in omega arith)
       some (suc t) e h = omega arith

@@ -14,9 +14,13 @@ use Rattle.rules.specs.Trace.{says}
 use Rattle.rules.specs.declared.Command.{Command}
 use Rattle.rules.specs.declared.Line.{Line}
 use Rattle.rules.specs.declared.Line.the-variants.{Does, Bad}
-use Rattle.lines.specs.Ending.{Unended, Closed, Front, right, other, leaving, Reads}
+use Rattle.lines.specs.Ending.{Unended, Closed, right, other, leaving, Reads}
 use Rattle.lines.specs.declared.Found.{Found}
 use Rattle.lines.specs.declared.Found.the-variants.{Right, Other}
+
+-- the bytes that are looked at in one go for the end of a line
+abbrev pub block : ℕ
+block = 64
 
 -- no byte from `at` to before `end` ends a line
 abbrev pub NoEnd : List ℕ → ℕ → ℕ → Type 0
@@ -62,16 +66,17 @@ no-end-join text at mid end a b i l h e = by-test (leb mid i) refl
     by-test true x = b i (leb-true mid i x) h e
     by-test false x = a i l (leb-false mid i x) e
 
-pub no-end-back-block : (text : List ℕ) (r : ℕ) → 64 ≤ r → NoEnd text (r - 64) (r - 64 + 64) → NoEnd text r (length text) → NoEnd text (r - 64) (length text)
-no-end-back-block text r p a b = no-end-join text (r - 64) r (length text) (λ i l h. a i l (omega arith)) b
+pub no-end-back-block : (text : List ℕ) (r : ℕ) → block ≤ r → NoEnd text (r - block) (r - block + block) → NoEnd text r (length text)
+    → NoEnd text (r - block) (length text)
+no-end-back-block text r p a b = no-end-join text (r - block) r (length text) (λ i l h. a i l (omega arith)) b
 
 -- a text does not end with a block in which no line ends
-pub block-inside : (text : List ℕ) (i : ℕ) → Closed text → i + 64 ≤ length text → NoEnd text i (i + 64) → i + 64 < length text
+pub block-inside : (text : List ℕ) (i : ℕ) → Closed text → i + block ≤ length text → NoEnd text i (i + block) → i + block < length text
 block-inside text i c h u = let x : i + 63 + 1 < length text = c (i + 63) (omega arith) (u (i + 63) (omega arith) (omega arith)) in omega arith
 
 -- a byte more of a block in which no line ends so far
-pub block-more : (text : List ℕ) (at i : ℕ) (found : Bool) → (found ≡ false → NoEnd text at (at + i)) → (getD text (at + i) 0 ≡ 10 → ⊥) → found ≡ false → NoEnd text at (at + (i + 1))
-block-more text at i found h d e = let x : at + (i + 1) ≡ at + i + 1 = omega arith in subst (NoEnd text at) (sym x) (no-end-more text at (at + i) (h e) d)
+pub block-more : (text : List ℕ) (at i : ℕ) → NoEnd text at (at + i) → (getD text (at + i) 0 ≡ 10 → ⊥) → NoEnd text at (at + (i + 1))
+block-more text at i h d = let x : at + (i + 1) ≡ at + i + 1 = omega arith in subst (NoEnd text at) (sym x) (no-end-more text at (at + i) h d)
 
 -- back from the end of a text
 no-end-first : (text : List ℕ) (r : ℕ) → (getD text r 0 ≡ 10 → ⊥) → NoEnd text (r + 1) (length text) → NoEnd text r (length text)
@@ -81,7 +86,8 @@ no-end-first text r d h i a b e = go (ℕ-discrete i r)
     go (yes x) = d (subst (λ (j : ℕ). getD text j 0 ≡ 10) x e)
     go (no x) = h i (omega arith) b e
 
-pub no-end-back : (text : List ℕ) (r : ℕ) → 0 < r → (getD text (r - 1) 0 ≡ 10 → ⊥) → NoEnd text r (length text) → NoEnd text (r - 1) (length text)
+pub no-end-back : (text : List ℕ) (r : ℕ) → 0 < r → (getD text (r - 1) 0 ≡ 10 → ⊥) → NoEnd text r (length text)
+    → NoEnd text (r - 1) (length text)
 no-end-back text r p d h = no-end-first text (r - 1) d (λ i a b. h i (omega arith) b)
 
 pub closed-last : (text : List ℕ) → (0 < length text → getD text (length text - 1) 0 ≡ 10) → Closed text
@@ -91,8 +97,8 @@ closed-last text e i l d = go (ℕ-discrete (i + 1) (length text))
     go (yes x) = absurd (d (let j : i ≡ length text - 1 = omega arith in ap (λ (k : ℕ). getD text k 0) j ∙ e (omega arith)))
     go (no x) = omega arith
 
-pub whole-at : (text : List ℕ) (r : ℕ) → 0 < r → r ≤ length text → getD text (r - 1) 0 ≡ 10 → NoEnd text r (length text) → Whole text r
-whole-at text r p h e u = record {
+pub whole-at : {text : List ℕ} {r : ℕ} → 0 < r → r ≤ length text → getD text (r - 1) 0 ≡ 10 → NoEnd text r (length text) → Whole text r
+whole-at {text} {r} p h e u = record {
   inside = h;
   closed = closed-last (take r text) (λ _.
       let n : length (take r text) - 1 ≡ r - 1 = omega (arith, size) in
@@ -103,23 +109,25 @@ whole-at text r p h e u = record {
     size : length (take r text) ≡ r
     size = length-take-le r text h
 
-pub whole-none : (text : List ℕ) (r : ℕ) → r ≡ 0 → NoEnd text r (length text) → Whole text r
-whole-none text r e u = record {
+pub whole-none : {text : List ℕ} {r : ℕ} → r ≡ 0 → NoEnd text r (length text) → Whole text r
+whole-none {text} {r} e u = record {
   inside = omega arith;
   closed = λ i l d. absurd (omega (arith, length-take-le r text (omega arith)));
   after = u;
 }
 
 -- a text that ends by byte 10 is all whole lines
-pub whole-all : (text : List ℕ) (r : ℕ) → Whole text r → (0 < length text → getD text (length text - 1) 0 ≡ 10) → length text ≤ r
-whole-all text r w e = by-test (leb (length text) r) refl
+pub whole-all : {text : List ℕ} {r : ℕ} → Whole text r → (0 < length text → getD text (length text - 1) 0 ≡ 10) → length text ≤ r
+whole-all {text} {r} w e = by-test (leb (length text) r) refl
   where
     by-test : (t : Bool) → leb (length text) r ≡ t → length text ≤ r
     by-test true x = leb-true (length text) r x
-    by-test false x = let h : r < length text = leb-false (length text) r x in absurd (w .after (length text - 1) (omega arith) (omega arith) (e (omega arith)))
+    by-test false x =
+        let h : r < length text = leb-false (length text) r x in
+        absurd (w .after (length text - 1) (omega arith) (omega arith) (e (omega arith)))
 
 -- a line that ends at `end`
-module _ (text : List ℕ) (at end : ℕ) (e : LineEnd text at end) where
+module _ {text : List ℕ} {at end : ℕ} (e : LineEnd text at end) where
   abbrev line : List ℕ
   line = take (end - at) (drop at text)
 
@@ -130,9 +138,7 @@ module _ (text : List ℕ) (at end : ℕ) (e : LineEnd text at end) where
   line-at = record {
     less = let x = e .after in omega arith;
     inside = let x = e .inside in omega arith;
-    is = sym (take-append-drop (end - at) (drop at text))
-        ∙ ap (λ (r : List ℕ). take (end - at) (drop at text) ++ r)
-        (drop-drop (end - at) at text ∙ ap (λ (m : ℕ). drop m text) there ∙ drop-cons text end 0 (e .inside) ∙ ap (λ (x : ℕ). x ∷ drop (suc end) text) (e .is) ∙ ap (λ (m : ℕ). 10 ∷ drop m text) (sym (add-one end)));
+    is = sym (take-append-drop (end - at) (drop at text)) ∙ ap (λ (r : List ℕ). take (end - at) (drop at text) ++ r) behind;
     unended = λ i l x.
         let c : i < end - at = subst (λ (m : ℕ). i < m) line-size l in
         e .before (at + i) (omega arith) (omega arith) (sym (getD-drop at text i 0) ∙ sym (getD-take (end - at) (drop at text) i 0 c) ∙ x);
@@ -141,9 +147,14 @@ module _ (text : List ℕ) (at end : ℕ) (e : LineEnd text at end) where
       there : at + (end - at) ≡ end
       there = let x = e .after in omega arith
 
+      behind : drop (end - at) (drop at text) ≡ 10 ∷ drop (end + 1) text
+      behind =
+          drop-drop (end - at) at text ∙ ap (λ (m : ℕ). drop m text) there ∙ drop-cons text end 0 (e .inside)
+          ∙ ap (λ (x : ℕ). x ∷ drop (suc end) text) (e .is) ∙ ap (λ (m : ℕ). 10 ∷ drop m text) (sym (add-one end))
+
   -- no right line stands there: it is bad
-  pub bad-at : (r : Found) → Reads text at r → r ≡ Other → says line ≡ Bad
-  bad-at r h x = go (says line) (subst (λ (y : Found). Reads text at y) x h .exact line (drop (end + 1) text) (line-at .unended) (line-at .is))
+  pub bad-at : {r : Found} → Reads text at r → r ≡ Other → says line ≡ Bad
+  bad-at h x = go (says line) (subst (λ (y : Found). Reads text at y) x h .exact line (drop (end + 1) text) (line-at .unended) (line-at .is))
     where
       go : (l : Line) → other ≡ leaving l (drop (end + 1) text) → l ≡ Bad
       go (Does c) y = absurd (let z : _≡_ {A = ℕ} 0 1 = cc y in omega arith)
@@ -175,7 +186,9 @@ first (b ∷ bs) c h = go (first bs) (ℕ-discrete b 10)
     go r (no d) = on d (r (closed-tail b bs c) (let y : 0 + 1 < length (b ∷ bs) = c 0 (omega arith) d in omega arith))
 
 pub closed-drop : (text : List ℕ) (at : ℕ) → Closed text → Closed (drop at text)
-closed-drop text at c i l x = let y : at + i + 1 < length text = c (at + i) (omega (arith, length-drop at text)) (λ e. x (getD-drop at text i 0 ∙ e)) in omega (arith, length-drop at text)
+closed-drop text at c i l x =
+    let y : at + i + 1 < length text = c (at + i) (omega (arith, length-drop at text)) (λ e. x (getD-drop at text i 0 ∙ e)) in
+    omega (arith, length-drop at text)
 
 -- a right line stands at a place
 pub record RightLine (text : List ℕ) (at next : ℕ) (c : Command) : Type 0 where
@@ -183,8 +196,9 @@ pub record RightLine (text : List ℕ) (at next : ℕ) (c : Command) : Type 0 wh
   pub one : OneLine text at next line
   pub says-is : says line ≡ Does c
 
-pub right-at : (text : List ℕ) (at : ℕ) → Closed text → at < length text → (r : Found) → Reads text at r → (c : Command) (next : ℕ) → r ≡ Right c next → RightLine text at next c
-right-at text at closed l r h c next x = go (first (drop at text) (closed-drop text at closed) (omega (arith, length-drop at text)))
+pub right-at : {text : List ℕ} {at next : ℕ} {r : Found} {c : Command} → Reads text at r → r ≡ Right c next → Closed text → at < length text
+    → RightLine text at next c
+right-at {text} {at} {next} {c = c} h x closed l = go (first (drop at text) (closed-drop text at closed) (omega (arith, length-drop at text)))
   where
     read : Reads text at (Right c next)
     read = subst (λ (y : Found). Reads text at y) x h

@@ -5,20 +5,22 @@ ghost use Prim.Native.Nat.{_+_, _≤_, _<_};
 ghost use lib.Dec.{eqb};
 ghost use lib.ListN.{length};
 ghost use Rattle.rules.specs.Tests.{_&_, onlyIf};
-ghost use Rattle.rules.specs.Calls.{storeOf, Ready};
-ghost use Rattle.rules.specs.Trace.{endLine};
+ghost use Rattle.rules.specs.Limits.{most};
+ghost use Rattle.rules.specs.Tables.{storeOf};
+ghost use Rattle.rules.specs.History.{freedIn};
 ghost use Rattle.rules.specs.declared.Line.the-variants.{Does};
 ghost use Rattle.lines.specs.Ending.{Closed};
-ghost use Rattle.obeying.specs.Obeyed.{replyOf};
-ghost use Rattle.answers.specs.Wrote.{Wrote};
-ghost use Rattle.answers.specs.Replies.{replyLine, freedIn};
-ghost use Rattle.reader.specs.Answered.{Stands, Answered};
-ghost use Rattle.reader.specs.Lines.{NoEnd, LineEnd, Whole};
+ghost use Rattle.obeying.specs.Obeyed.{replyOf, Stands};
+ghost use Rattle.answers.specs.Wrote.{longest, Wrote};
+ghost use Rattle.answers.specs.Replies.{replyLine};
+ghost use Rattle.reader.specs.Answered.{Answered};
+ghost use Rattle.reader.specs.Lines.{block, NoEnd, LineEnd, Whole};
 ghost use Rattle.reader.specs.Fed.{Feeding, Stopped};
-ghost use Rattle.reader.specs.Ended.{Totalled};
+ghost use Rattle.reader.specs.Ended.{Totalled, LastLine};
 use lines::Found;
 use obeying::Reply;
 use rules::Command;
+use rules::Store;
 
 // Where the output goes on, and a number below which nothing is free.
 pub struct Step {
@@ -28,8 +30,8 @@ pub struct Step {
 
 // Writes the line of a reply.
 fn write_reply(out: &mut [u8], at: usize, reply: Reply, list: &[u16]) -> usize
-    requires { ⌜ (freedIn (replyOf reply) ≤ length (now list)) × (freedIn (replyOf reply) ≤ 1024) × (at + 6208 ≤ length (now out)) ⌝ }
-    ensures { λ r. ⌜ Wrote (now (out .entry)) at (replyLine (replyOf reply) (now (list .entry))) (now (out .exit)) r × (r ≤ at + 6208) ⌝ }
+    requires { ⌜ (freedIn (replyOf reply) ≤ length (now list)) × (freedIn (replyOf reply) ≤ most) × (at + longest ≤ length (now out)) ⌝ }
+    ensures { λ r. ⌜ Wrote (now (out .entry)) at (replyLine (replyOf reply) (now (list .entry))) (now (out .exit)) r × (r ≤ at + longest) ⌝ }
 {
     match reply {
         Reply::Answered(answer) => answers::put_answer(out, at, answer, list),
@@ -52,11 +54,14 @@ fn act(
     out: &mut [u8],
     at: usize,
 ) -> Step
-    requires { ⌜ Stands n (storeOf n (now states) (now links) (now leaders) (now holds) (now counts)) (now list) (now work) from × (at + 6208 ≤ length (now out)) ⌝ }
-    ensures { λ r. ⌜ Answered n (storeOf n (now (states .entry)) (now (links .entry)) (now (leaders .entry)) (now (holds .entry)) (now (counts .entry))) (Does command) (now (out .entry)) at
-        (storeOf n (now (states .exit)) (now (links .exit)) (now (leaders .exit)) (now (holds .exit)) (now (counts .exit))) (now (list .exit)) (now (work .exit)) (now (out .exit)) (r .at) (r .from) ⌝ }
+    requires { ⌜ Stands n (storeOf n (now states) (now links) (now leaders) (now holds) (now counts)) (now list) (now work) from
+        × (at + longest ≤ length (now out)) ⌝ }
+    ensures { λ r. ⌜ Answered n (storeOf n (now (states .entry)) (now (links .entry)) (now (leaders .entry)) (now (holds .entry)) (now (counts .entry)))
+        (Does command) (now (out .entry)) at
+        (storeOf n (now (states .exit)) (now (links .exit)) (now (leaders .exit)) (now (holds .exit)) (now (counts .exit)))
+        (now (list .exit)) (now (work .exit)) (now (out .exit)) (r .at) (r .from) ⌝ }
 {
-    let reply = obeying::obey(
+    let done = obeying::obey(
         n,
         states,
         links,
@@ -68,29 +73,32 @@ fn act(
         from,
         command,
     );
-    let low = obeying::lowest(command, reply, list, from);
+    let reply = done.reply;
     let next = write_reply(out, at, reply, list);
     Step {
         at: next,
-        from: low,
+        from: done.from,
     }
 }
 
-// How far a text was read and how much was written.
+// How far a text was read, how much was written, and a number below which nothing is free.
 pub struct Fed {
     pub taken: usize,
     pub written: usize,
     pub from: usize,
 }
 
-// Whether one of the 64 bytes from a place on ends a line.
+// The bytes that are looked at in one go for the end of a line.
+const BLOCK: usize = 64;
+
+// Whether one of the bytes of the block from a place on ends a line.
 fn ends(text: &[u8], at: usize) -> bool
-    requires { ⌜ at + 64 ≤ length (now text) ⌝ }
-    ensures { λ r. ⌜ (r ≡ false → NoEnd (now (text .entry)) at (at + 64)) ⌝ }
+    requires { ⌜ at + block ≤ length (now text) ⌝ }
+    ensures { λ r. ⌜ (r ≡ false → NoEnd (now (text .entry)) at (at + block)) ⌝ }
 {
     let mut found = false;
     let mut i = 0;
-    while i < 64 {
+    while i < BLOCK {
         if text[at + i] == 10 {
             found = true;
         }
@@ -105,11 +113,11 @@ fn pass(text: &[u8], at: usize) -> usize
     ensures { λ r. ⌜ (at ≤ r) × (r < length (now (text .entry))) × NoEnd (now (text .entry)) at r ⌝ }
 {
     let mut i = at;
-    while 64 <= text.len() - i {
+    while BLOCK <= text.len() - i {
         if ends(text, i) {
             return i;
         }
-        i += 64;
+        i += BLOCK;
     }
     i
 }
@@ -119,11 +127,11 @@ fn pass_back(text: &[u8]) -> usize
     ensures { λ r. ⌜ (r ≤ length (now (text .entry))) × NoEnd (now (text .entry)) r (length (now (text .entry))) ⌝ }
 {
     let mut r = text.len();
-    while 64 <= r {
-        if ends(text, r - 64) {
+    while BLOCK <= r {
+        if ends(text, r - BLOCK) {
             return r;
         }
-        r -= 64;
+        r -= BLOCK;
     }
     r
 }
@@ -174,24 +182,26 @@ pub fn feed(
     counts: &mut [u32],
     list: &mut [u16],
     work: &mut [u32],
-    from: usize,
+    mut from: usize,
     out: &mut [u8],
 ) -> Fed
-    requires { ⌜ Stands n (storeOf n (now states) (now links) (now leaders) (now holds) (now counts)) (now list) (now work) from × Closed (now text) × (6208 ≤ length (now out)) ⌝ }
-    ensures { λ r. ⌜ Feeding n (storeOf n (now (states .entry)) (now (links .entry)) (now (leaders .entry)) (now (holds .entry)) (now (counts .entry))) (now (text .entry))
-        (storeOf n (now (states .exit)) (now (links .exit)) (now (leaders .exit)) (now (holds .exit)) (now (counts .exit))) (now (list .exit)) (now (work .exit)) (now (out .exit)) (r .taken) (r .written) (r .from)
+    requires { ⌜ Stands n (storeOf n (now states) (now links) (now leaders) (now holds) (now counts)) (now list) (now work) from
+        × Closed (now text) × (longest ≤ length (now out)) ⌝ }
+    ensures { λ r. ⌜ Feeding n (storeOf n (now (states .entry)) (now (links .entry)) (now (leaders .entry)) (now (holds .entry)) (now (counts .entry)))
+        (now (text .entry))
+        (storeOf n (now (states .exit)) (now (links .exit)) (now (leaders .exit)) (now (holds .exit)) (now (counts .exit)))
+        (now (list .exit)) (now (work .exit)) (now (out .exit)) (r .taken) (r .written) (r .from)
         × Stopped (now (text .entry)) (now (out .exit)) (r .taken) (r .written) ⌝ }
 {
-    let most = out.len() - 6208;
+    let most = out.len() - answers::LONGEST;
     let mut at = 0;
     let mut written = 0;
-    let mut low = from;
     while at < text.len() {
         if most < written {
             return Fed {
                 taken: at,
                 written: written,
-                from: low,
+                from: from,
             };
         }
         match lines::read(text, at) {
@@ -206,13 +216,13 @@ pub fn feed(
                     counts,
                     list,
                     work,
-                    low,
+                    from,
                     out,
                     written,
                 );
                 at = next;
                 written = step.at;
-                low = step.from;
+                from = step.from;
             }
             Found::Other => {
                 at = line_end(text, at) + 1;
@@ -223,7 +233,7 @@ pub fn feed(
     Fed {
         taken: at,
         written: written,
-        from: low,
+        from: from,
     }
 }
 
@@ -236,7 +246,7 @@ pub struct Totals {
 
 // 1 where the state is k, else 0.
 fn is_state(state: u8, k: u8) -> u32
-    ensures { λ r. ⌜ r ≡ onlyIf (eqb state k) 1 ⌝ }
+    ensures { λ r. ⌜ (r ≡ onlyIf (eqb state k) 1) × (r ≤ 1) ⌝ }
 {
     if state == k {
         return 1;
@@ -246,9 +256,9 @@ fn is_state(state: u8, k: u8) -> u32
 
 // 1 where a piece of this state and leader leads a group, else 0.
 fn leads_one(state: u8, leader: u16, p: usize) -> u32
-    ensures { λ r. ⌜ r ≡ onlyIf (eqb state 2 & eqb leader p) 1 ⌝ }
+    ensures { λ r. ⌜ (r ≡ onlyIf (eqb state 2 & eqb leader p) 1) × (r ≤ 1) ⌝ }
 {
-    if state != 2 {
+    if state != Store::FROZEN {
         return 0;
     }
     let l = leader as usize;
@@ -260,7 +270,7 @@ fn leads_one(state: u8, leader: u16, p: usize) -> u32
 
 // Counts drafts, frozen pieces and groups.
 fn total(n: usize, states: &[u8], leaders: &[u16]) -> Totals
-    requires { ⌜ (n ≤ 1024) × (length (now states) ≡ n) × (length (now leaders) ≡ n) ⌝ }
+    requires { ⌜ (n ≤ most) × (length (now states) ≡ n) × (length (now leaders) ≡ n) ⌝ }
     ensures { λ r. ⌜ Totalled (now (states .entry)) (now (leaders .entry)) n (r .drafts) (r .frozen) (r .groups) ⌝ }
 {
     let mut drafts: u32 = 0;
@@ -280,19 +290,10 @@ fn total(n: usize, states: &[u8], leaders: &[u16]) -> Totals
     }
 }
 
-// Writes the last line of a trace.
-pub fn close(
-    n: usize,
-    states: &[u8],
-    links: &[u16],
-    leaders: &[u16],
-    holds: &[u16],
-    counts: &[u32],
-    out: &mut [u8],
-    at: usize,
-) -> usize
-    requires { ⌜ Ready (storeOf n (now states) (now links) (now leaders) (now holds) (now counts)) × (at + 64 ≤ length (now out)) ⌝ }
-    ensures { λ r. ⌜ Wrote (now (out .entry)) at (endLine (storeOf n (now (states .entry)) (now (links .entry)) (now (leaders .entry)) (now (holds .entry)) (now (counts .entry)))) (now (out .exit)) r × (r ≤ at + 64) ⌝ }
+// Writes the last line of a trace, that of every store with these states and leaders.
+pub fn close(n: usize, states: &[u8], leaders: &[u16], out: &mut [u8], at: usize) -> usize
+    requires { ⌜ (n ≤ most) × (length (now states) ≡ n) × (length (now leaders) ≡ n) × (at + 64 ≤ length (now out)) ⌝ }
+    ensures { λ r. ⌜ LastLine n (now (states .entry)) (now (leaders .entry)) (now (out .entry)) at (now (out .exit)) r ⌝ }
 {
     let all = total(n, states, leaders);
     answers::put_end(out, at, all.drafts, all.frozen, all.groups)

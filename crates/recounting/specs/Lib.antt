@@ -1,3 +1,3 @@
-pub mod Turned
+pub mod MadeFrozen
 pub mod Fresh
 pub mod Passing

@@ -1,18 +1,16 @@
 // The pass of a freeze: what the search finished becomes frozen, and the places that name it are counted.
-ghost use mathlib.Core.Path.{_≡_};
 ghost use Prim.Native.Nat.{_+_, _*_, _≤_, _<_};
 ghost use lib.ListN.{length};
-ghost use Rattle.paths.specs.Ground.{_!_};
-ghost use Rattle.recounting.specs.Fresh.{fresh, Taking, Taken};
-ghost use Rattle.recounting.specs.Passing.{Under, Passed, Adding, Added};
+ghost use Rattle.recounting.specs.Fresh.{FreshLeader, Taking, Taken};
+ghost use Rattle.recounting.specs.Passing.{Adding, PlacesAdded, Under, Passed};
 use rules::Store;
 
 // The leader of q, if the search finished it, else none.
 fn leader_of(n: usize, work: &[u32], q: usize) -> usize
     requires { ⌜ (n ≤ 1024) × (3 * n ≤ length (now work)) × (q < n) ⌝ }
-    ensures { λ r. ⌜ r ≡ fresh n (now (work .entry)) ! q ⌝ }
+    ensures { λ r. ⌜ FreshLeader n (now (work .entry)) q r ⌝ }
 {
-    if work[q] == 65535 {
+    if work[q] == paths::FINISHED_MARK {
         return work[2 * n + q] as usize;
     }
     Store::NONE as usize
@@ -21,11 +19,11 @@ fn leader_of(n: usize, work: &[u32], q: usize) -> usize
 // Adds one to the count of a fresh group for each place of q that names it from outside.
 fn add_places(n: usize, links: &[u16], counts: &mut [u32], work: &[u32], q: usize)
     requires { ⌜ Adding n (now links) (now counts) (now work) q ⌝ }
-    ensures { λ _. ⌜ Added n (now (links .entry)) (now (counts .entry)) (now (work .entry)) (4 * q) (now (counts .exit)) (4 * q + 4) ⌝ }
+    ensures { λ _. ⌜ PlacesAdded n (now (links .entry)) (now (counts .entry)) (now (work .entry)) (4 * q) (now (counts .exit)) (4 * q + 4) ⌝ }
 {
     let own = leader_of(n, work, q);
-    let end = 4 * q + 4;
-    let mut i = 4 * q;
+    let end = Store::LINKS * q + Store::LINKS;
+    let mut i = Store::LINKS * q;
     while i < end {
         let t = links[i] as usize;
         if t < n {
@@ -51,11 +49,12 @@ fn take_in(
     q: usize,
 )
     requires { ⌜ Under n (now states) (now links) (now leaders) (now counts) (now work) q × (q < n) ⌝ }
-    ensures { λ _. ⌜ Passed n (now (states .entry)) (now (links .entry)) (now (leaders .entry)) (now (counts .entry)) (now (work .entry)) q (now (states .exit)) (now (leaders .exit)) (now (counts .exit)) (q + 1) ⌝ }
+    ensures { λ _. ⌜ Passed n (now (states .entry)) (now (links .entry)) (now (leaders .entry)) (now (counts .entry)) (now (work .entry)) q
+        (now (states .exit)) (now (leaders .exit)) (now (counts .exit)) (q + 1) ⌝ }
 {
     add_places(n, links, counts, work, q);
-    if work[q] == 65535 {
-        states[q] = 2;
+    if work[q] == paths::FINISHED_MARK {
+        states[q] = Store::FROZEN;
         leaders[q] = work[2 * n + q] as u16;
     }
 }
@@ -72,13 +71,14 @@ fn take_part(
     to: usize,
 )
     requires { ⌜ Under n (now states) (now links) (now leaders) (now counts) (now work) from × (from ≤ to) × (to ≤ n) ⌝ }
-    ensures { λ _. ⌜ Passed n (now (states .entry)) (now (links .entry)) (now (leaders .entry)) (now (counts .entry)) (now (work .entry)) from (now (states .exit)) (now (leaders .exit)) (now (counts .exit)) to ⌝ }
+    ensures { λ _. ⌜ Passed n (now (states .entry)) (now (links .entry)) (now (leaders .entry)) (now (counts .entry)) (now (work .entry)) from
+        (now (states .exit)) (now (leaders .exit)) (now (counts .exit)) to ⌝ }
 {
     let mut q = from;
     while q < to {
         let k = q;
         q += 1;
-        if states[k] == 1 {
+        if states[k] == Store::DRAFT {
             take_in(n, states, links, leaders, counts, work, k);
         }
     }
@@ -94,7 +94,8 @@ pub fn take_all(
     work: &[u32],
 )
     requires { ⌜ Taking n (now states) (now links) (now leaders) (now counts) (now work) ⌝ }
-    ensures { λ _. ⌜ Taken n (now (states .entry)) (now (links .entry)) (now (leaders .entry)) (now (counts .entry)) (now (work .entry)) n (now (states .exit)) (now (leaders .exit)) (now (counts .exit)) ⌝ }
+    ensures { λ _. ⌜ Taken n (now (states .entry)) (now (links .entry)) (now (leaders .entry)) (now (counts .entry)) (now (work .entry)) n
+        (now (states .exit)) (now (leaders .exit)) (now (counts .exit)) ⌝ }
 {
     let mut q: usize = 0;
     while 64 <= n - q {

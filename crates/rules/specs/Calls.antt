@@ -1,4 +1,4 @@
--- Document 01: the nine calls over the areas that they are lent, for all contents and all lengths.
+-- The nine calls over the areas that they are lent, for all contents and all lengths.
 use mathlib.Core.Path.{_≡_}
 use mathlib.Core.Bool.{Bool, true, false, not}
 use mathlib.Core.List.{List, [], _∷_, _++_}
@@ -9,11 +9,10 @@ use Rattle.rules.specs.Tests.{_or_, _&_, pick}
 use Rattle.rules.specs.Limits.{most, none}
 use Rattle.rules.specs.Tables.{Base, Store, state, holdsOf, isSound, empty}
 use Rattle.rules.specs.Words.{Sized, Sound}
-use Rattle.rules.specs.Commands.{Verdict, accepted, refused, firstOf, refusals, verdict, freedBy, valueOf, nextStore}
+use Rattle.rules.specs.Commands.{isLook, pieceOf, Verdict, accepted, refused, firstOf, refusals, verdict, freedBy, valueOf, nextStore}
 use Rattle.rules.specs.declared.Refusal.{Refusal}
 use Rattle.rules.specs.declared.Refusal.the-variants.{Size, Unsound, Number, Free, State, Limit, NotHeld, Linked, Full, Long, Room}
 use Rattle.rules.specs.declared.Command.{Command}
-use Rattle.rules.specs.declared.Command.the-variants.{New, Set, Freeze, Acquire, Release, Bin, Look}
 use Rattle.rules.specs.declared.Answer.{Answer}
 use Rattle.rules.specs.declared.Answer.the-variants.{Done, Refused}
 use Rattle.rules.specs.declared.Seen.{Seen}
@@ -31,11 +30,6 @@ pub record Areas : Type 0 where
   pub store : Store
   pub list : List ℕ
   pub work : List ℕ
-
--- the tables in 01's order
-abbrev pub storeOf : ℕ → List ℕ → List ℕ → List ℕ → List ℕ → List ℕ → Store
-storeOf n states links leaders holds counts =
-    record { base = record { n = n; states = states; links = links; holds = holds }; leaders = leaders; counts = counts }
 
 abbrev pub areasOf : Store → List ℕ → List ℕ → Areas
 areasOf s list work = record { store = s; list = list; work = work }
@@ -96,6 +90,17 @@ pub data Reply : Type 0 where
   saw : Seen → Reply
   checked : Checked → Reply
 
+-- the number and values of any reply
+pub data Numbers : Type 0 where
+  values : Values → Numbers
+  seenValues : SeenValues → Numbers
+  checkedValues : CheckedValues → Numbers
+
+abbrev pub numbersOf : Reply → Numbers
+numbersOf (answered a) = values (valuesOf a)
+numbersOf (saw s) = seenValues (seenValuesOf s)
+numbersOf (checked c) = checkedValues (checkedValuesOf c)
+
 pub record Outcome : Type 0 where
   pub reply : Reply
   pub areas : Areas
@@ -105,13 +110,7 @@ outcome r a = record { reply = r; areas = a }
 
 -- a call of command c refused by r
 unfoldable pub refusedBy : Refusal → Command → Reply
-refusedBy r New = answered (Refused r)
-refusedBy r (Set p k t) = answered (Refused r)
-refusedBy r (Freeze p) = answered (Refused r)
-refusedBy r (Acquire p) = answered (Refused r)
-refusedBy r (Release p) = answered (Refused r)
-refusedBy r (Bin p) = answered (Refused r)
-refusedBy r (Look p) = saw (Unseen r)
+refusedBy r c = pick (isLook c) (saw (Unseen r)) (answered (Refused r))
 
 unfoldable pub refusedCall : Refusal → Call → Reply
 refusedCall r start = answered (Refused r)
@@ -128,13 +127,7 @@ doneBy b c = Done (valueOf b c) (length (freedBy b c))
 
 -- what an accepted command answers
 unfoldable pub acceptedBy : Store → Command → Reply
-acceptedBy s New = answered (doneBy (s .base) New)
-acceptedBy s (Set p k t) = answered (doneBy (s .base) (Set p k t))
-acceptedBy s (Freeze p) = answered (doneBy (s .base) (Freeze p))
-acceptedBy s (Acquire p) = answered (doneBy (s .base) (Acquire p))
-acceptedBy s (Release p) = answered (doneBy (s .base) (Release p))
-acceptedBy s (Bin p) = answered (doneBy (s .base) (Bin p))
-acceptedBy s (Look p) = saw (seenAt s p)
+acceptedBy s c = pick (isLook c) (saw (seenAt s (pieceOf c))) (answered (doneBy (s .base) c))
 
 -- ---- a command on sound tables
 
@@ -164,13 +157,7 @@ effectOf s l c = effected s l c (verdict (s .base) c)
 -- start takes no list and no work; look and check take work and no list
 unfoldable pub takesList : Call → Bool
 takesList start = false
-takesList (does New) = true
-takesList (does (Set p k t)) = true
-takesList (does (Freeze p)) = true
-takesList (does (Acquire p)) = true
-takesList (does (Release p)) = true
-takesList (does (Bin p)) = true
-takesList (does (Look p)) = false
+takesList (does c) = not (isLook c)
 takesList check = false
 
 unfoldable pub takesWork : Call → Bool
@@ -229,7 +216,7 @@ ended a c (refused r) = outcome (refusedCall r c) (pick (eqb (numberOf r) 1) a (
 unfoldable pub outcomeOf : Areas → Call → Outcome
 outcomeOf a c = ended a c (judge a c)
 
--- The promise of every call, for all areas: its reply and every area on return are what 01 gives
+-- The promise of every call, for all areas: its reply and every area on return are what the rules give
 pub record Promise (c : Call) (before : Areas) (after : Outcome) : Type 0 where
   pub exact : after ≡ outcomeOf before c
 
@@ -246,6 +233,6 @@ pub record Clear (n : ℕ) (w : List ℕ) : Type 0 where
   pub size : 8 * n ≤ length w
   pub zeros : (i : ℕ) → i < 8 * n → getD w i 0 ≡ 0
 
--- the command's reply, and the store and the list on return, are what 01 gives; a command that takes no list has [] for it
+-- the command's reply, and the store and the list on return, are what the rules give; a command that takes no list has [] for it
 pub record Did (c : Command) (s : Store) (l : List ℕ) (after : Effect) : Type 0 where
   pub exact : after ≡ effectOf s l c

@@ -1,13 +1,13 @@
--- Document 01, "What each call does" and "The refusal numbers": the seven commands, on tables of their lengths.
-use mathlib.Core.Bool.{Bool, true, false, not}
+-- The rulebook's calls and refusals: the seven commands, on tables of their lengths.
+use mathlib.Core.Bool.{Bool, not}
 use mathlib.Core.List.{List, [], _∷_}
-use Prim.Native.Nat.{ℕ, zero, suc, _+_, _*_, _-_, _/_}
+use Prim.Native.Nat.{ℕ, _+_, _*_, _-_, _/_}
 use lib.Dec.{eqb, ltb, leb}
-use lib.ListN.{length, getD, set}
+use lib.ListN.{getD, set}
 use Rattle.rules.specs.Tests.{_or_, _&_, pick}
 use Rattle.rules.specs.Limits.{mostHolds, none}
 use Rattle.rules.specs.Below.{every, any, table, lowest, list}
-use Rattle.rules.specs.Tables.{Base, Store, state, isFree, isDraft, isFrozen, linkAt, holdsOf, reaches, isKept, finish}
+use Rattle.rules.specs.Tables.{Base, Store, baseOf, state, isFree, isDraft, isFrozen, linkAt, holdsOf, reaches, isKept, finish}
 use Rattle.rules.specs.declared.Refusal.{Refusal}
 use Rattle.rules.specs.declared.Refusal.the-variants.{Number, Free, State, Limit, NotHeld, Linked, Full}
 use Rattle.rules.specs.declared.Command.{Command}
@@ -22,100 +22,103 @@ unfoldable pub firstOf : List (Bool × Refusal) → Verdict
 firstOf [] = accepted
 firstOf (r ∷ rs) = pick (r .0) (refused (r .1)) (firstOf rs)
 
-module _ (b : Base) where
-  abbrev below : ℕ → Bool
-  below p = ltb p (b .n)
+-- ---- what a command is, and the piece that it names
 
+-- the place of a command in the rulebook's order
+abbrev pub placeOf : Command → ℕ
+placeOf New = 0
+placeOf (Set p k t) = 1
+placeOf (Freeze p) = 2
+placeOf (Acquire p) = 3
+placeOf (Release p) = 4
+placeOf (Bin p) = 5
+placeOf (Look p) = 6
+
+-- P, and none for new
+abbrev pub pieceOf : Command → ℕ
+pieceOf New = none
+pieceOf (Set p k t) = p
+pieceOf (Freeze p) = p
+pieceOf (Acquire p) = p
+pieceOf (Release p) = p
+pieceOf (Bin p) = p
+pieceOf (Look p) = p
+
+abbrev pub isNew : Command → Bool
+isNew c = eqb (placeOf c) 0
+
+abbrev pub isSet : Command → Bool
+isSet c = eqb (placeOf c) 1
+
+abbrev pub isFreeze : Command → Bool
+isFreeze c = eqb (placeOf c) 2
+
+abbrev pub isAcquire : Command → Bool
+isAcquire c = eqb (placeOf c) 3
+
+abbrev pub isRelease : Command → Bool
+isRelease c = eqb (placeOf c) 4
+
+abbrev pub isBin : Command → Bool
+isBin c = eqb (placeOf c) 5
+
+abbrev pub isLook : Command → Bool
+isLook c = eqb (placeOf c) 6
+
+-- ---- what is refused
+
+module _ (b : Base) where
   -- 3 NUMBER: P is N or more, K above 3, or T neither none nor below N
-  unfoldable pub wrongNumber : Command → Bool
-  wrongNumber New = false
-  wrongNumber (Set p k t) = not (below p) or not (ltb k 4) or not (eqb t none or below t)
-  wrongNumber (Freeze p) = not (below p)
-  wrongNumber (Acquire p) = not (below p)
-  wrongNumber (Release p) = not (below p)
-  wrongNumber (Bin p) = not (below p)
-  wrongNumber (Look p) = not (below p)
+  abbrev pub noPiece : ℕ → Bool
+  noPiece p = not (ltb p (b .n))
+
+  abbrev pub noPlace : ℕ → Bool
+  noPlace k = not (ltb k 4)
+
+  abbrev pub noTarget : ℕ → Bool
+  noTarget t = not (eqb t none or ltb t (b .n))
 
   -- 4 FREE: P or T is a free number
-  unfoldable pub namesFree : Command → Bool
-  namesFree New = false
-  namesFree (Set p k t) = isFree b p or not (eqb t none) & isFree b t
-  namesFree (Freeze p) = isFree b p
-  namesFree (Acquire p) = isFree b p
-  namesFree (Release p) = isFree b p
-  namesFree (Bin p) = isFree b p
-  namesFree (Look p) = isFree b p
-
-  -- 5 STATE: set or bin of a frozen piece; acquire or release of a draft
-  unfoldable pub wrongState : Command → Bool
-  wrongState New = false
-  wrongState (Set p k t) = isFrozen b p
-  wrongState (Freeze p) = false
-  wrongState (Acquire p) = isDraft b p
-  wrongState (Release p) = isDraft b p
-  wrongState (Bin p) = isFrozen b p
-  wrongState (Look p) = false
+  abbrev pub freeTarget : ℕ → Bool
+  freeTarget t = not (eqb t none) & isFree b t
 
   -- 6 LIMIT: acquire or freeze of a frozen piece with 1,000 holds
-  unfoldable pub atLimit : Command → Bool
-  atLimit New = false
-  atLimit (Set p k t) = false
-  atLimit (Freeze p) = isFrozen b p & leb mostHolds (holdsOf b p)
-  atLimit (Acquire p) = isFrozen b p & leb mostHolds (holdsOf b p)
-  atLimit (Release p) = false
-  atLimit (Bin p) = false
-  atLimit (Look p) = false
+  unfoldable pub atLimit : ℕ → Bool
+  atLimit p = isFrozen b p & leb mostHolds (holdsOf b p)
 
   -- 7 NOTHELD: release of a piece with 0 holds
-  unfoldable pub notHeld : Command → Bool
-  notHeld New = false
-  notHeld (Set p k t) = false
-  notHeld (Freeze p) = false
-  notHeld (Acquire p) = false
-  notHeld (Release p) = eqb (holdsOf b p) 0
-  notHeld (Bin p) = false
-  notHeld (Look p) = false
+  unfoldable pub notHeld : ℕ → Bool
+  notHeld p = eqb (holdsOf b p) 0
 
-  -- another piece than p links to p
+  -- 8 LINKED: bin of a draft that another piece links to
   unfoldable pub isLinked : ℕ → Bool
   isLinked p = any (λ r. not (eqb r p) & any (λ k. eqb (linkAt b r k) p) 4) (b .n)
 
-  -- 8 LINKED: bin of a draft that another piece links to
-  unfoldable pub linked : Command → Bool
-  linked New = false
-  linked (Set p k t) = false
-  linked (Freeze p) = false
-  linked (Acquire p) = false
-  linked (Release p) = false
-  linked (Bin p) = isLinked p
-  linked (Look p) = false
-
   -- 9 FULL: new with no free number
-  unfoldable pub full : Command → Bool
-  full New = every (λ p. not (isFree b p)) (b .n)
-  full (Set p k t) = false
-  full (Freeze p) = false
-  full (Acquire p) = false
-  full (Release p) = false
-  full (Bin p) = false
-  full (Look p) = false
+  unfoldable pub noneFree : Bool
+  noneFree = every (λ p. not (isFree b p)) (b .n)
 
-  -- the refusals of a command on sound tables, checked in this order
+  -- the refusals of each command on sound tables, checked in this order; 5 STATE: set or bin of a frozen piece, acquire or release of a draft
   unfoldable pub refusals : Command → List (Bool × Refusal)
-  refusals c =
-      (wrongNumber c, Number) ∷ (namesFree c, Free) ∷ (wrongState c, State) ∷ (atLimit c, Limit) ∷ (notHeld c, NotHeld) ∷ (linked c, Linked)
-      ∷ (full c, Full) ∷ []
+  refusals New = (noneFree, Full) ∷ []
+  refusals (Set p k t) = (noPiece p or noPlace k or noTarget t, Number) ∷ (isFree b p or freeTarget t, Free) ∷ (isFrozen b p, State) ∷ []
+  refusals (Freeze p) = (noPiece p, Number) ∷ (isFree b p, Free) ∷ (atLimit p, Limit) ∷ []
+  refusals (Acquire p) = (noPiece p, Number) ∷ (isFree b p, Free) ∷ (isDraft b p, State) ∷ (atLimit p, Limit) ∷ []
+  refusals (Release p) = (noPiece p, Number) ∷ (isFree b p, Free) ∷ (isDraft b p, State) ∷ (notHeld p, NotHeld) ∷ []
+  refusals (Bin p) = (noPiece p, Number) ∷ (isFree b p, Free) ∷ (isFrozen b p, State) ∷ (isLinked p, Linked) ∷ []
+  refusals (Look p) = (noPiece p, Number) ∷ (isFree b p, Free) ∷ []
 
+module _ (b : Base) where
   -- ---- what changes
 
   unfoldable pub withStates : List ℕ → Base
-  withStates l = record { n = b .n; states = l; links = b .links; holds = b .holds }
+  withStates l = baseOf (b .n) l (b .links) (b .holds)
 
   unfoldable pub withLinks : List ℕ → Base
-  withLinks l = record { n = b .n; states = b .states; links = l; holds = b .holds }
+  withLinks l = baseOf (b .n) (b .states) l (b .holds)
 
   unfoldable pub withHolds : List ℕ → Base
-  withHolds l = record { n = b .n; states = b .states; links = b .links; holds = l }
+  withHolds l = baseOf (b .n) (b .states) (b .links) l
 
   -- one hold more on p
   unfoldable pub oneMore : ℕ → Base
@@ -127,12 +130,9 @@ module _ (b : Base) where
 
   -- the pieces of which f is true become free
   unfoldable pub freeAll : (ℕ → Bool) → Base
-  freeAll f = record {
-    n = b .n;
-    states = table (λ p. pick (f p) 0 (state b p)) (b .n);
-    links = table (λ j. pick (f (j / 4)) none (getD (b .links) j 0)) (4 * b .n);
-    holds = table (λ p. pick (f p) 0 (holdsOf b p)) (b .n);
-  }
+  freeAll f =
+      baseOf (b .n) (table (λ p. pick (f p) 0 (state b p)) (b .n)) (table (λ j. pick (f (j / 4)) none (getD (b .links) j 0)) (4 * b .n))
+      (table (λ p. pick (f p) 0 (holdsOf b p)) (b .n))
 
   -- every frozen piece no longer kept
   unfoldable pub gone : ℕ → Bool
@@ -148,12 +148,7 @@ module _ (b : Base) where
 
   -- P and every draft it reaches become frozen; P gets one hold
   unfoldable pub freezeFirst : ℕ → Base
-  freezeFirst p = record {
-    n = b .n;
-    states = table (λ q. pick (isDraft b q & reaches b p q) 2 (state b q)) (b .n);
-    links = b .links;
-    holds = set (b .holds) p 1;
-  }
+  freezeFirst p = baseOf (b .n) (table (λ q. pick (isDraft b q & reaches b p q) 2 (state b q)) (b .n)) (b .links) (set (b .holds) p 1)
 
   -- what an accepted command does to states, links and holds, before what is no longer kept is freed:
   -- new: the lowest free number becomes a draft with four empty links (a free piece's links are empty)
@@ -172,13 +167,7 @@ module _ (b : Base) where
 
 -- after set, release and bin, every frozen piece no longer kept becomes free
 unfoldable pub settles : Command → Bool
-settles New = false
-settles (Set p k t) = true
-settles (Freeze p) = false
-settles (Acquire p) = false
-settles (Release p) = true
-settles (Bin p) = true
-settles (Look p) = false
+settles c = isSet c or isRelease c or isBin c
 
 -- the pieces that an accepted command frees, ascending; a binned draft is neither listed nor counted
 unfoldable pub freedBy : Base → Command → List ℕ
@@ -190,13 +179,7 @@ after b c = let e = edit b c in pick (settles c) (freeAll e (gone e)) e
 
 -- the value of an accepted command: none for all but new
 unfoldable pub valueOf : Base → Command → ℕ
-valueOf b New = firstFree b
-valueOf b (Set p k t) = none
-valueOf b (Freeze p) = none
-valueOf b (Acquire p) = none
-valueOf b (Release p) = none
-valueOf b (Bin p) = none
-valueOf b (Look p) = none
+valueOf b c = pick (isNew c) (firstFree b) none
 
 -- the verdict on sound tables
 unfoldable pub verdict : Base → Command → Verdict

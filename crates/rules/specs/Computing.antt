@@ -1,10 +1,16 @@
 -- All definitions that the sets and the worked trace compute with, bundled once.
 use Rattle.rules.specs.Below.{every, any, sum, tableFrom, table, lowestFrom, lowest, listFrom, list}
 use Rattle.rules.specs.Reach.{hit, widenFrom, widen, close, into, reachb}
-use Rattle.rules.specs.Tables.{state, isFree, isDraft, isFrozen, isLive, linkAt, holdsOf, reaches, inGroup, leaderOf, places, countOf, isRoot, isKept, leaderEntry, countEntry, finish, allFour, wellFree, wellDraft, wellFrozen, well, soundAt, isSound, empty}
-use Rattle.rules.specs.Commands.{firstOf, wrongNumber, namesFree, wrongState, atLimit, notHeld, isLinked, linked, full, refusals, withStates, withLinks, withHolds, oneMore, oneLess, freeAll, gone, goneList, firstFree, freezeFirst, edit, settles, freedBy, after, valueOf, verdict, nextStore, settled, stepTo}
+use Rattle.rules.specs.Tables.{state, isFree, isDraft, isFrozen, isLive, linkAt, holdsOf, reaches, inGroup, leaderOf, places, countOf, isRoot}
+use Rattle.rules.specs.Tables.{isKept, leaderEntry, countEntry, finish, allFour, wellFree, wellDraft, wellFrozen, well, soundAt, isSound, empty}
+use Rattle.rules.specs.Commands.{firstOf, atLimit, notHeld, isLinked, noneFree, refusals, withStates, withLinks, withHolds, oneMore, oneLess}
+use Rattle.rules.specs.Commands.{freeAll, gone, goneList, firstFree, freezeFirst, edit, settles, freedBy, after, valueOf, verdict, nextStore}
+use Rattle.rules.specs.Commands.{settled, stepTo}
 use Rattle.rules.specs.Calls.{seenAt}
 
 unfoldable pub computing : Unit {0}
-unfolding every any sum tableFrom table lowestFrom lowest listFrom list hit widenFrom widen close into reachb state isFree isDraft isFrozen isLive linkAt holdsOf reaches inGroup leaderOf places countOf isRoot isKept leaderEntry countEntry finish allFour wellFree wellDraft wellFrozen well soundAt isSound empty firstOf wrongNumber namesFree wrongState atLimit notHeld isLinked linked full refusals withStates withLinks withHolds oneMore oneLess freeAll gone goneList firstFree freezeFirst edit settles freedBy after valueOf verdict nextStore settled stepTo seenAt
+unfolding every any sum tableFrom table lowestFrom lowest listFrom list hit widenFrom widen close into reachb state isFree isDraft isFrozen isLive linkAt
+    holdsOf reaches inGroup leaderOf places countOf isRoot isKept leaderEntry countEntry finish allFour wellFree wellDraft wellFrozen well soundAt isSound
+    empty firstOf atLimit notHeld isLinked noneFree refusals withStates withLinks withHolds oneMore oneLess freeAll gone goneList firstFree freezeFirst
+    edit settles freedBy after valueOf verdict nextStore settled stepTo seenAt
 computing = tt

@@ -10,15 +10,12 @@ use Rattle.rules.specs.Tests.{_or_, _&_, pick, onlyIf}
 use Rattle.rules.specs.Lists.{Among, Ascending}
 use Rattle.rules.specs.Tables.{Base, Store, state, empty}
 use Rattle.rules.specs.Words.{Draft, Frozen, Live, Reaches}
-use Rattle.rules.specs.Commands.{edit}
+use Rattle.rules.specs.Commands.{pieceOf, isNew, isFreeze, isAcquire, isRelease, edit}
 use Rattle.rules.specs.Calls.{Call, start, does, check, Areas, Reply, answered, saw, checked, Outcome, Promise}
 use Rattle.rules.specs.declared.Command.{Command}
-use Rattle.rules.specs.declared.Command.the-variants.{New, Set, Freeze, Acquire, Release, Bin, Look}
-use Rattle.rules.specs.declared.Answer.{Answer}
+use Rattle.rules.specs.declared.Command.the-variants.{Bin}
 use Rattle.rules.specs.declared.Answer.the-variants.{Done, Refused}
-use Rattle.rules.specs.declared.Seen.{Seen}
 use Rattle.rules.specs.declared.Seen.the-variants.{Piece, Unseen}
-use Rattle.rules.specs.declared.Checked.{Checked}
 use Rattle.rules.specs.declared.Checked.the-variants.{Yes, No, Unchecked}
 
 -- a call as it was made, and what came of it
@@ -51,23 +48,11 @@ pub data History (n : ℕ) : List Event → Store → Type 0 where
 
 -- a freeze or an acquire naming p
 unfoldable pub addsTo : ℕ → Command → Bool
-addsTo p New = false
-addsTo p (Set q k t) = false
-addsTo p (Freeze q) = eqb q p
-addsTo p (Acquire q) = eqb q p
-addsTo p (Release q) = false
-addsTo p (Bin q) = false
-addsTo p (Look q) = false
+addsTo p c = (isFreeze c or isAcquire c) & eqb (pieceOf c) p
 
 -- a release naming p
 unfoldable pub takesFrom : ℕ → Command → Bool
-takesFrom p New = false
-takesFrom p (Set q k t) = false
-takesFrom p (Freeze q) = false
-takesFrom p (Acquire q) = false
-takesFrom p (Release q) = eqb q p
-takesFrom p (Bin q) = false
-takesFrom p (Look q) = false
+takesFrom p c = isRelease c & eqb (pieceOf c) p
 
 -- of the calls, those of a command with f
 unfoldable pub commands : (Command → Bool) → Call → Bool
@@ -78,15 +63,6 @@ commands f check = false
 -- an accepted call of a command with f
 unfoldable pub acceptedOf : (Command → Bool) → Event → Bool
 acceptedOf f e = isAccepted (e .came .reply) & commands f (e .call)
-
-abbrev pub isNew : Command → Bool
-isNew New = true
-isNew (Set p k t) = false
-isNew (Freeze p) = false
-isNew (Acquire p) = false
-isNew (Release p) = false
-isNew (Bin p) = false
-isNew (Look p) = false
 
 -- the answer's value is p
 unfoldable pub hasValue : ℕ → Reply → Bool

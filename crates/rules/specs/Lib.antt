@@ -1,3 +1,4 @@
+pub mod Texts
 pub mod Tests
 pub mod Limits
 pub mod Below
@@ -8,7 +9,9 @@ pub mod Words
 pub mod Commands
 pub mod Calls
 pub mod Trace
+pub mod Grammar
 pub mod Computing
 pub mod History
+pub mod Calling
 pub mod Sets
 pub mod Worked

@@ -1,4 +1,4 @@
--- Document 01, "Pieces on the table: fourteen small sets", as one table under one theorem.
+-- The rulebook's fourteen small sets, as one table under one theorem.
 use mathlib.Core.Path.{_≡_, refl}
 use mathlib.Core.Bool.{Bool, true, false}
 use mathlib.Core.List.{List, [], _∷_}
@@ -105,7 +105,8 @@ sets =
     -- 9. 0 to 1 to 2, freeze 0, release 0: frees 0 1 2.
     ∷ row 4 (gives 0 ∷ gives 1 ∷ gives 2 ∷ ok (Set 0 0 1) ∷ ok (Set 1 0 2) ∷ ok (Freeze 0) ∷ frees (Release 0) (0 ∷ 1 ∷ 2 ∷ []) ∷ [])
     -- 10. 0 to 1 and 2, both to 3, freeze 0: count of 3 is 2; release 0 frees 0 1 2 3.
-    ∷ row 4 (gives 0 ∷ gives 1 ∷ gives 2 ∷ gives 3 ∷ ok (Set 0 0 1) ∷ ok (Set 0 1 2) ∷ ok (Set 1 0 3) ∷ ok (Set 2 0 3) ∷ ok (Freeze 0) ∷ sees 3 2 3 2 0 ∷ frees (Release 0) (0 ∷ 1 ∷ 2 ∷ 3 ∷ []) ∷ [])
+    ∷ row 4 (gives 0 ∷ gives 1 ∷ gives 2 ∷ gives 3 ∷ ok (Set 0 0 1) ∷ ok (Set 0 1 2) ∷ ok (Set 1 0 3) ∷ ok (Set 2 0 3) ∷ ok (Freeze 0) ∷ sees 3 2 3 2 0 ∷ frees
+    (Release 0) (0 ∷ 1 ∷ 2 ∷ 3 ∷ []) ∷ [])
     -- 11. 999 holds, acquire: accepted. 1,000 holds: acquire and freeze give 6.
     ∷ row 1 (gives 0 ∷ ok (Freeze 0) ∷ again 998 (Acquire 0) ∷ sees 0 2 0 999 999 ∷ ok (Acquire 0) ∷ no (Acquire 0) Limit ∷ no (Freeze 0) Limit ∷ [])
     -- 12. Bin of a draft linked by itself: accepted; by another draft: 8.
@@ -121,7 +122,7 @@ unfoldable pub trying : Unit {0}
 unfolding computing sameList answers shows accepts acceptsAll times right wrongFrom sets
 trying = tt
 
--- every set is as document 01 says
+-- every set is as the rulebook says
 pub sets-right : wrongFrom 1 sets ≡ []
 unfolding trying
 sets-right = refl

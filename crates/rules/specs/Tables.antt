@@ -1,4 +1,4 @@
--- Document 01, "Tables and numbers": what the tables hold, and what sound tables are.
+-- The rulebook's tables: what the tables hold, and what sound tables are.
 use mathlib.Core.Bool.{Bool, not}
 use mathlib.Core.List.{List}
 use Prim.Native.Nat.{ℕ, _+_, _*_}
@@ -21,6 +21,14 @@ pub record Store : Type 0 where
   pub base : Base
   pub leaders : List ℕ
   pub counts : List ℕ
+
+-- what commands tell the store, at capacity n
+abbrev pub baseOf : ℕ → List ℕ → List ℕ → List ℕ → Base
+baseOf n states links holds = record { n = n; states = states; links = links; holds = holds }
+
+-- the tables in the rulebook's order
+abbrev pub storeOf : ℕ → List ℕ → List ℕ → List ℕ → List ℕ → List ℕ → Store
+storeOf n states links leaders holds counts = record { base = baseOf n states links holds; leaders = leaders; counts = counts }
 
 module _ (b : Base) where
   unfoldable pub state : ℕ → ℕ
@@ -119,8 +127,4 @@ module _ (s : Store) where
 
 -- In an empty store all links are 65,535, all leaders too, and everything else is 0
 unfoldable pub empty : ℕ → Store
-empty n = record {
-  base = record { n = n; states = replicate n 0; links = replicate (4 * n) none; holds = replicate n 0 };
-  leaders = replicate n none;
-  counts = replicate n 0;
-}
+empty n = storeOf n (replicate n 0) (replicate (4 * n) none) (replicate n none) (replicate n 0) (replicate n 0)

@@ -1,5 +1,5 @@
--- Document 01, "The trace": what a line says, what each line answers, the last line, the output of a whole trace, and what a lent trace gives.
-use mathlib.Core.Bool.{Bool, true, false, not}
+-- The rulebook's trace: what a line says, what each line answers, the last line, the output of a whole trace, and what a lent trace gives.
+use mathlib.Core.Bool.{Bool}
 use mathlib.Core.List.{List, [], _∷_, _++_}
 use Prim.Native.Nat.{ℕ, zero, suc, _+_, _*_, _-_, _/_, _%_, _^_}
 use lib.Dec.{eqb, ltb, leb}
@@ -7,10 +7,9 @@ use lib.ListN.{length, getD, take, drop, replicate}
 use Rattle.rules.specs.Tests.{_or_, _&_, pick, onlyIf}
 use Rattle.rules.specs.Limits.{most, mostTrace, none}
 use Rattle.rules.specs.Below.{sum}
-use Rattle.rules.specs.Tables.{Base, Store, isDraft, isFrozen, empty}
-use Rattle.rules.specs.Commands.{Verdict, accepted, refused, verdict, freedBy, valueOf, stepTo}
+use Rattle.rules.specs.Tables.{Store, isDraft, isFrozen, empty}
+use Rattle.rules.specs.Commands.{isLook, pieceOf, Verdict, accepted, refused, verdict, freedBy, valueOf, stepTo}
 use Rattle.rules.specs.Calls.{numberOf, seenAt}
-use Rattle.rules.specs.declared.Refusal.{Refusal}
 use Rattle.rules.specs.declared.Refusal.the-variants.{Long, Room}
 use Rattle.rules.specs.declared.Command.{Command}
 use Rattle.rules.specs.declared.Command.the-variants.{New, Set, Freeze, Acquire, Release, Bin, Look}
@@ -153,13 +152,7 @@ abbrev pub badLine : List ℕ
 badLine = 120 ∷ 10 ∷ []
 
 unfoldable pub acceptedLine : Store → Command → List ℕ
-acceptedLine s New = answerLine 0 (valueOf (s .base) New) (freedBy (s .base) New)
-acceptedLine s (Set p k t) = answerLine 0 (valueOf (s .base) (Set p k t)) (freedBy (s .base) (Set p k t))
-acceptedLine s (Freeze p) = answerLine 0 (valueOf (s .base) (Freeze p)) (freedBy (s .base) (Freeze p))
-acceptedLine s (Acquire p) = answerLine 0 (valueOf (s .base) (Acquire p)) (freedBy (s .base) (Acquire p))
-acceptedLine s (Release p) = answerLine 0 (valueOf (s .base) (Release p)) (freedBy (s .base) (Release p))
-acceptedLine s (Bin p) = answerLine 0 (valueOf (s .base) (Bin p)) (freedBy (s .base) (Bin p))
-acceptedLine s (Look p) = lookLine (seenAt s p)
+acceptedLine s c = pick (isLook c) (lookLine (seenAt s (pieceOf c))) (answerLine 0 (valueOf (s .base) c) (freedBy (s .base) c))
 
 unfoldable pub lineBy : Store → Command → Verdict → List ℕ
 lineBy s c accepted = acceptedLine s c

@@ -1,7 +1,6 @@
--- Document 01's words as statements: Reach, Group, Leader, Kept, Sound.
+-- The rulebook's words as statements: Reach, Group, Leader, Kept, Sound.
 use mathlib.Core.Path.{_≡_}
 use mathlib.Core.Logic.{_⊎_, _≢_}
-use mathlib.Core.List.{List}
 use Prim.Native.Nat.{ℕ, _*_, _≤_, _<_}
 use lib.ListN.{length, getD}
 use Rattle.rules.specs.Limits.{most, mostHolds, none}

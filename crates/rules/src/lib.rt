@@ -1,11 +1,9 @@
-// The store's limits, its refusals, commands and answers, as document 01 names them. What they mean stands in specs/.
+// The store's limits, its refusals, commands and answers, as the rulebook names them. What they mean stands in specs/.
 ghost use mathlib.Core.Path.{_≡_};
-ghost use Rattle.rules.specs.Calls.{fresh};
+ghost use Rattle.rules.specs.Calls.{numberOf, fresh};
 
-// The store of pattern pieces, by its capacity.
-pub struct Store {
-    pub n: usize,
-}
+// The store of pattern pieces.
+pub struct Store {}
 
 impl Store {
     // The largest capacity.
@@ -22,6 +20,13 @@ impl Store {
 
     // The mark for none.
     pub const NONE: u16 = 65535;
+
+    // The states of a piece: free, draft, frozen.
+    pub const FREE: u8 = 0;
+
+    pub const DRAFT: u8 = 1;
+
+    pub const FROZEN: u8 = 2;
 
     // The answer of an accepted call that gives no value and frees nothing.
     pub fn fresh() -> Answer
@@ -60,7 +65,26 @@ pub enum Refusal {
     Room,
 }
 
-// The commands, in 01's order: the calls that a line of a trace can make.
+// The number of a refusal.
+pub fn refusal_number(refusal: Refusal) -> u32
+    ensures { λ r. ⌜ r ≡ numberOf refusal ⌝ }
+{
+    match refusal {
+        Refusal::Size => 1,
+        Refusal::Unsound => 2,
+        Refusal::Number => 3,
+        Refusal::Free => 4,
+        Refusal::State => 5,
+        Refusal::Limit => 6,
+        Refusal::NotHeld => 7,
+        Refusal::Linked => 8,
+        Refusal::Full => 9,
+        Refusal::Long => 10,
+        Refusal::Room => 11,
+    }
+}
+
+// The commands, in the rulebook's order: the calls that a line of a trace can make.
 pub enum Command {
     New,
     Set { p: u16, k: u16, t: u16 },

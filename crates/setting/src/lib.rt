@@ -3,13 +3,13 @@ ghost use mathlib.Core.Path.{_≡_};
 ghost use mathlib.Core.Logic.{_⊎_};
 ghost use Prim.Native.Nat.{_≤_, _<_};
 ghost use lib.ListN.{length};
+ghost use Rattle.rules.specs.Tables.{storeOf};
 ghost use Rattle.rules.specs.Limits.{none};
-ghost use Rattle.rules.specs.Calls.{answered, effect, storeOf, Ready, Did};
+ghost use Rattle.rules.specs.Calls.{answered, effect, Ready, Did};
 ghost use Rattle.rules.specs.declared.Command.the-variants.{Set};
-ghost use Rattle.laws.specs.Passes.{Passes};
-ghost use Rattle.falling.specs.Steps.{base};
-ghost use Rattle.editing.specs.Verdicts.{Accepted};
+ghost use Rattle.editing.specs.Verdicts.{Worked};
 ghost use Rattle.editing.specs.Targets.{misnames, frees};
+ghost use Rattle.editing.specs.Set.{Setting};
 use rules::Answer;
 use rules::Refusal;
 use rules::Store;
@@ -40,14 +40,14 @@ fn names_free(states: &[u8], p: usize, t: u16) -> bool
     requires { ⌜ (p < length (now states)) × ((t ≡ none) ⊎ (t < length (now states))) ⌝ }
     ensures { λ r. ⌜ r ≡ frees (now (states .entry)) p t ⌝ }
 {
-    if states[p] == 0 {
+    if states[p] == Store::FREE {
         return true;
     }
     if t == Store::NONE {
         return false;
     }
     let to = t as usize;
-    if states[to] == 0 {
+    if states[to] == Store::FREE {
         return true;
     }
     false
@@ -66,9 +66,8 @@ fn set_place(
     k: usize,
     t: u16,
 ) -> usize
-    requires { ⌜ Ready (storeOf n (now states) (now links) (now leaders) (now holds) (now counts)) × (n ≤ length (now list))
-        × Passes (base n (now states) (now links) (now holds)) (Set p k t) ⌝ }
-    ensures { λ r. ⌜ Accepted (Set p k t)
+    requires { ⌜ Setting (storeOf n (now states) (now links) (now leaders) (now holds) (now counts)) (now list) p k t ⌝ }
+    ensures { λ r. ⌜ Worked (Set p k t)
         (storeOf n (now (states .entry)) (now (links .entry)) (now (leaders .entry)) (now (holds .entry)) (now (counts .entry))) (now (list .entry))
         (storeOf n (now (states .exit)) (now (links .exit)) (now (leaders .exit)) (now (holds .entry)) (now (counts .exit))) (now (list .exit)) r ⌝ }
 {
@@ -102,7 +101,7 @@ pub fn set_link(
     if names_free(states, at, t) {
         return Answer::Refused(Refusal::Free);
     }
-    if states[at] == 2 {
+    if states[at] == Store::FROZEN {
         return Answer::Refused(Refusal::State);
     }
     let place = k as usize;

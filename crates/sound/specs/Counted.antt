@@ -1,61 +1,112 @@
--- Where leaders are right, counts are right and no group has count 0 exactly if they are the counts by label and no leader's is 0.
-use mathlib.Core.Path.{_≡_, sym, _∙_, ap}
+-- The counts of all labels stand in the seventh region. Where leaders are right, counts are right and no group has count 0 exactly if they are these and no leader's is 0.
+use mathlib.Core.Path.{_≡_, sym, _∙_, ap, subst}
+use mathlib.Core.Bool.{Bool, true}
 use mathlib.Core.Logic.{⊎-elim}
-use mathlib.Core.List.{List, _++_}
-use Prim.Native.Nat.{ℕ, _+_, _*_, _≤_, _<_}
+use mathlib.Core.List.{List, _++_, append-nil}
+use Prim.Native.Nat.{ℕ, _+_, _-_, _*_, _≤_, _<_}
 use native.Mathlib.Omega.{arith}
 use lib.ListN.{length, take, drop, length-append, length-drop, List·getD-append}
-use lib.Seq.{getD-append-add, getD-take, length-take-le, drop-drop, drop-at}
+use lib.Seq.{getD-append-add, getD-take, getD-drop, length-take-le, take-all, drop-length, drop-drop, drop-at}
+use borrow.Rule.Slice.PartMut.{midOf, putMid, post-is}
+use Rattle.rules.specs.Lists.{_!_}
 use Rattle.rules.specs.Tables.{Base, state, leaderOf, countEntry}
 use Rattle.rules.specs.Words.{Frozen, Kept, Well}
+use Rattle.laws.specs.Numbers.{eq-or}
 use Rattle.laws.specs.Sound.{leaderEntry-frozen, countEntry-leads}
 use Rattle.laws.specs.Kept.{kept↔counts}
-use Rattle.paths.specs.Ground.{_!_}
-use Rattle.paths.specs.Tools.{eq-or}
 use Rattle.tallies.specs.Tally.{tally}
 use Rattle.tallies.specs.Exact.{tally-entry}
-use Rattle.tallies.specs.Adding.{Tallied}
-use Rattle.counts.specs.Added.{LaterSame}
-use Rattle.sound.specs.Says.{Below}
-use Rattle.sound.specs.Wells.{live-on}
-use Rattle.sound.specs.Leaders.{LeadersRight, entry-other, exact}
+use Rattle.tallies.specs.Adding.{Tallied, LaterSame}
+use Rattle.tallies.specs.Stores.{live-on, exact-right}
+use Rattle.sound.specs.Truthful.{Truthful, tells-same, Below}
+use Rattle.sound.specs.Wells.{Linked}
+use Rattle.sound.specs.Tested.{TablesGiven, AllTested}
+use Rattle.sound.specs.Leaders.{LeadersRight, entry-other}
+
+-- what the count of all labels into the seventh region is given
+pub record CountGiven (n : ℕ) (states links leaders holds work : List ℕ) : Type 0 where
+  pub most : n ≤ 1024
+  pub states-n : length states ≡ n
+  pub links-n : length links ≡ 4 * n
+  pub leaders-n : length leaders ≡ n
+  pub holds-n : length holds ≡ n
+  pub work-n : 8 * n ≤ length work
+  pub states-most : Below (λ q. states ! q ≤ 2) n
+  pub zeros : (l : ℕ) → l < n → work ! (6 * n + l) ≡ 0
 
 -- the seventh region has the counts of all labels
-abbrev pub Counted : ℕ → List ℕ → List ℕ → List ℕ → List ℕ → Type 0
-Counted n links holds leaders w = (l : ℕ) → l < n → w ! (6 * n + l) ≡ tally n links holds leaders l
+pub record CountedUp (n : ℕ) (links holds leaders work : List ℕ) : Type 0 where
+  pub counts : (l : ℕ) → l < n → work ! (6 * n + l) ≡ tally n links holds leaders l
 
 -- only the seventh and the eighth region change
-pub record Apart (n : ℕ) (w w′ : List ℕ) : Type 0 where
+pub record OutsideKept (n : ℕ) (w w′ : List ℕ) : Type 0 where
   pub size : length w′ ≡ length w
-  pub before : (i : ℕ) → i < 6 * n → w′ ! i ≡ w ! i
+  pub front : (i : ℕ) → i < 6 * n → w′ ! i ≡ w ! i
   pub later : drop (8 * n) w′ ≡ drop (8 * n) w
 
--- the part of work from 6n on
-module _ (n : ℕ) (w part part′ w′ : List ℕ) (size : 8 * n ≤ length w) (p : part ≡ drop (6 * n) w) (e : w′ ≡ take (6 * n) w ++ part′) where
-  head : length (take (6 * n) w) ≡ 6 * n
-  head = length-take-le (6 * n) w (omega arith)
+-- whether all links are well; if they are, the labels are counted
+pub record UpTested (n : ℕ) (states links leaders holds work work′ : List ℕ) (r : Bool) : Type 0 where
+  pub tells : Truthful (Below (Linked n states links) n) r
+  pub counted : r ≡ true → CountedUp n links holds leaders work′
+  pub kept : OutsideKept n work work′
 
-  pub part-counted : (links holds leaders : List ℕ) → Tallied n links holds leaders part part′ → Counted n links holds leaders w′
-  part-counted links holds leaders t l h =
-      ap (λ (x : List ℕ). x ! (6 * n + l)) e ∙ ap (λ (i : ℕ). (take (6 * n) w ++ part′) ! (i + l)) (sym head) ∙ getD-append-add (take (6 * n) w) part′ l 0 ∙ t .matches l h
+-- behind the eighth region is behind two regions of what follows the sixth
+pub behind-regions : (n : ℕ) (l : List ℕ) → drop (8 * n) l ≡ drop (2 * n) (drop (6 * n) l)
+behind-regions n l = let e : 8 * n ≡ 6 * n + 2 * n = omega arith in ap (λ (m : ℕ). drop m l) e ∙ sym (drop-drop (2 * n) (6 * n) l)
 
-  pub part-apart : LaterSame n part part′ → Apart n w w′
-  part-apart k =
-      let two : drop (2 * n) part′ ≡ drop (2 * n) part = twice part′ ∙ ap (drop n) (k .later) ∙ sym (twice part) in
+-- ---- the part of work from 6n on is lent, and comes back
+
+-- the part, and the whole when another is put back
+mid : (a : ℕ) (w : List ℕ) → midOf a (length w - a) w ≡ drop a w
+mid a w = take-all (length w - a) (drop a w) (simp length-drop (omega arith))
+
+whole : (a : ℕ) (w part : List ℕ) → a ≤ length w → putMid a (length w - a) w part ≡ take a w ++ part
+whole a w part h =
+    ap (λ (t : List ℕ). take a w ++ (part ++ t)) (post-is a (length w) w h ∙ drop-length w) ∙ ap (λ (t : List ℕ). take a w ++ t) (append-nil part)
+
+module _ {n : ℕ} {states links leaders holds w : List ℕ} (g : CountGiven n states links leaders holds w) where
+  pub part-given : TablesGiven n states links leaders holds (midOf (6 * n) (length w - 6 * n) w)
+  part-given =
+      let e = mid (6 * n) w in
       record {
-        size = ap length e ∙ length-append (take (6 * n) w) part′ ∙ omega (arith, head, k .size, ap length p ∙ length-drop (6 * n) w);
-        before = λ i h.
-            ap (λ (x : List ℕ). x ! i) e ∙ List·getD-append (take (6 * n) w) part′ 0 i (omega (arith, head)) ∙ getD-take (6 * n) w i 0 h;
-        later =
-            ap (drop (8 * n)) e ∙ past (take (6 * n) w ++ part′) ∙ ap (drop (2 * n)) (drop-at (take (6 * n) w) part′ (6 * n) head) ∙ two ∙ ap (drop (2 * n)) p ∙
-            sym (past w);
+        states-n = g .states-n;
+        links-n = g .links-n;
+        holds-n = g .holds-n;
+        states-most = g .states-most;
+        labelled = record { small = g .most; leaders-n = g .leaders-n; counts-n = omega (arith, ap length e ∙ length-drop (6 * n) w, g .work-n) };
+        zeros = λ l h. ap (λ (x : List ℕ). x ! l) e ∙ getD-drop (6 * n) w l 0 ∙ g .zeros l h;
+      }
+
+  head : length (take (6 * n) w) ≡ 6 * n
+  head = length-take-le (6 * n) w (omega (arith, g .work-n))
+
+  part-counted : (part : List ℕ) → Tallied n links holds leaders (midOf (6 * n) (length w - 6 * n) w) part → CountedUp n links holds leaders (take (6 * n) w ++ part)
+  part-counted part t = record {
+    counts = λ l h.
+        ap (λ (i : ℕ). (take (6 * n) w ++ part) ! (i + l)) (sym head) ∙ getD-append-add (take (6 * n) w) part l 0 ∙ t .matches l h;
+  }
+
+  part-kept : (part : List ℕ) → LaterSame n (midOf (6 * n) (length w - 6 * n) w) part → OutsideKept n w (take (6 * n) w ++ part)
+  part-kept part k =
+      let e = mid (6 * n) w in
+      let two : drop (2 * n) part ≡ drop (2 * n) (drop (6 * n) w) =
+      twice part ∙ ap (drop n) (k .later) ∙ sym (twice (midOf (6 * n) (length w - 6 * n) w)) ∙ ap (drop (2 * n)) e in
+      record {
+        size = length-append (take (6 * n) w) part ∙ omega (arith, head, k .size, ap length e ∙ length-drop (6 * n) w, g .work-n);
+        front = λ i h. List·getD-append (take (6 * n) w) part 0 i (omega (arith, head)) ∙ getD-take (6 * n) w i 0 h;
+        later = behind-regions n (take (6 * n) w ++ part) ∙ ap (drop (2 * n)) (drop-at (take (6 * n) w) part (6 * n) head) ∙ two ∙ sym (behind-regions n w);
       }
     where
       twice : (l : List ℕ) → drop (2 * n) l ≡ drop n (drop n l)
       twice l = let e : 2 * n ≡ n + n = omega arith in ap (λ (m : ℕ). drop m l) e ∙ sym (drop-drop n n l)
 
-      past : (l : List ℕ) → drop (8 * n) l ≡ drop (2 * n) (drop (6 * n) l)
-      past l = let e : 8 * n ≡ 6 * n + 2 * n = omega arith in ap (λ (m : ℕ). drop m l) e ∙ sym (drop-drop (2 * n) (6 * n) l)
+  pub part-tested : {part : List ℕ} {r : Bool} → AllTested n states links leaders holds (midOf (6 * n) (length w - 6 * n) w) part r
+      → UpTested n states links leaders holds w (putMid (6 * n) (length w - 6 * n) w part) r
+  part-tested {part} {r} x =
+      subst (λ (l : List ℕ). UpTested n states links leaders holds w l r) (sym (whole (6 * n) w part (omega (arith, g .work-n))))
+      (record { tells = x .tells; counted = λ e. part-counted part (x .tallied e); kept = part-kept part (x .kept) })
+
+-- ---- the counts compared
 
 -- the count is the one counted, and not 0 at a leader
 abbrev pub CountFound : ℕ → List ℕ → List ℕ → List ℕ → ℕ → Type 0
@@ -66,10 +117,10 @@ pub record CountsRight (b : Base) (counts : List ℕ) : Type 0 where
   pub entries : Below (λ p. counts ! p ≡ countEntry b p) (b .n)
   pub kept : (p : ℕ) → Frozen b p → Kept b p
 
-module _ (b : Base) (small : b .n ≤ 1024) (wells : (p : ℕ) → p < b .n → Well b p) (leaders : List ℕ) (size : length leaders ≡ b .n) (right : LeadersRight b leaders)
-    (w′ : List ℕ) (C : Counted (b .n) (b .links) (b .holds) leaders w′) (counts : List ℕ) where
-  entry : (p : ℕ) → p < b .n → w′ ! (6 * b .n + p) ≡ countEntry b p
-  entry p h = C p h ∙ tally-entry b leaders (exact b small leaders size right) wells p h
+module _ {b : Base} (small : b .n ≤ 1024) (wells : Below (Well b) (b .n)) {leaders : List ℕ} (size : length leaders ≡ b .n) (right : LeadersRight b leaders)
+    {w : List ℕ} (C : CountedUp (b .n) (b .links) (b .holds) leaders w) where
+  entry : (p : ℕ) → p < b .n → w ! (6 * b .n + p) ≡ countEntry b p
+  entry p h = C .counts p h ∙ tally-entry b leaders (exact-right b leaders size small right) wells p h
 
   leads : (p : ℕ) → Frozen b p → leaders ! p ≡ leaderOf b p
   leads p f = right p (f .below) ∙ leaderEntry-frozen b p (f .is)
@@ -80,18 +131,17 @@ module _ (b : Base) (small : b .n ≤ 1024) (wells : (p : ℕ) → p < b .n → 
   frozen p h e =
       record { below = h; is = ⊎-elim (λ x. x) (λ d. absurd (omega (arith, e, right p h, entry-other b p h d))) (eq-or (b .states ! p) 2) }
 
-  pub counts→ : Below (CountFound (b .n) leaders counts w′) (b .n) → CountsRight b counts
-  counts→ f = record {
-    entries = λ p h. f p h .0 ∙ entry p h;
-    kept = kept↔counts b (live-on b small wells) .1 (λ p fr e.
-        omega (arith, f p (fr .below) .1 (leads p fr ∙ e), f p (fr .below) .0, entry p (fr .below), countEntry-leads b p (fr .is) e));
-  }
-
-  pub →counts : CountsRight b counts → Below (CountFound (b .n) leaders counts w′) (b .n)
-  →counts r p h = (
-    r .entries p h ∙ sym (entry p h),
-    λ e.
-        let fr = frozen p h e in
-        let l : leaderOf b p ≡ p = sym (leads p fr) ∙ e in
-        omega (arith, r .entries p h, countEntry-leads b p (fr .is) l, kept↔counts b (live-on b small wells) .0 (r .kept) p fr l),
-  )
+  pub counts-told : (counts : List ℕ) {r : Bool} → Truthful (Below (CountFound (b .n) leaders counts w) (b .n)) r → Truthful (CountsRight b counts) r
+  counts-told counts = tells-same
+      (λ f. record {
+        entries = λ p h. f p h .0 ∙ entry p h;
+        kept = kept↔counts b (live-on b small wells) .1 (λ p fr e.
+            omega (arith, f p (fr .below) .1 (leads p fr ∙ e), f p (fr .below) .0, entry p (fr .below), countEntry-leads b p (fr .is) e));
+      })
+      (λ r p h. (
+        r .entries p h ∙ sym (entry p h),
+        λ e.
+            let fr = frozen p h e in
+            let l : leaderOf b p ≡ p = sym (leads p fr) ∙ e in
+            omega (arith, r .entries p h, countEntry-leads b p (fr .is) l, kept↔counts b (live-on b small wells) .0 (r .kept) p fr l),
+      ))

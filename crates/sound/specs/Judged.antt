@@ -1,87 +1,131 @@
--- The three passes decide whether the tables are sound.
-use mathlib.Core.Path.{_≡_, sym, _∙_, ap}
-use mathlib.Core.Bool.{Bool}
+-- The passes decide whether the tables are sound: the first that says no refutes it, and the last decides it.
+use mathlib.Core.Path.{_≡_, refl, sym, _∙_, ap}
+use mathlib.Core.Bool.{Bool, false, not, true}
 use mathlib.Core.List.{List, _++_}
-use Prim.Native.Nat.{ℕ, _+_, _*_, _≤_, _<_}
+use Prim.Native.Nat.{ℕ, _+_, _*_, _≤_}
 use native.Mathlib.Omega.{arith}
 use lib.ListN.{length, drop, replicate, length-append, length-replicate, length-drop, getD-replicate, List·getD-append}
-use lib.Seq.{drop-at, drop-drop, getD-drop}
+use lib.Seq.{drop-at, getD-drop}
+use Rattle.rules.specs.Lists.{_!_}
 use Rattle.rules.specs.Tables.{Store, isSound}
 use Rattle.rules.specs.Words.{Well, Sound, Sized}
 use Rattle.rules.specs.Calls.{clear, Clear}
 use Rattle.laws.specs.Sound.{sound→entries, entries→sound, isSound→, →isSound}
-use Rattle.paths.specs.Ground.{_!_}
 use Rattle.paths.specs.Classes.{frozen-closed}
-use Rattle.groups.specs.Marked.{Ready, Marked, Of}
-use Rattle.sound.specs.Says.{Says, Below, says-is, says-same}
-use Rattle.sound.specs.Leaders.{LeaderFound, LeadersRight, found→, →found}
-use Rattle.sound.specs.Counted.{Counted, Apart, CountFound, CountsRight, counts→, →counts}
+use Rattle.groups.specs.Grouped.{Searchable, Grouped, Of}
+use Rattle.sound.specs.Truthful.{Truthful, tells-no, told-yes, told-no, was-yes, tells-is, Below}
+use Rattle.sound.specs.Wells.{HeldWell, state-most, holds-of, well-linked}
+use Rattle.sound.specs.Leaders.{LeaderFound, LeadersRight, leaders-told}
+use Rattle.sound.specs.Counted.{CountGiven, CountedUp, OutsideKept, UpTested, behind-regions, CountFound, counts-told}
 
-module _ (s : Store) where
-  pub not-well : (((p : ℕ) → p < s .base .n → Well (s .base) p) → ⊥) → Sound s → ⊥
-  not-well f x = f (sound→entries s x .good .wells)
+-- whether the tables are sound; behind its eight regions work is as it was
+pub record Judged (s : Store) (w w′ : List ℕ) (r : Bool) : Type 0 where
+  pub tells : Truthful (Sound s) r
+  pub later : drop (8 * s .base .n) w′ ≡ drop (8 * s .base .n) w
 
-  pub not-led : (LeadersRight (s .base) (s .leaders) → ⊥) → Sound s → ⊥
-  not-led f x = f (sound→entries s x .leaders)
+pub is-sound : {s : Store} {w w′ : List ℕ} {r : Bool} → Judged s w w′ r → r ≡ isSound s
+is-sound {s} x = tells-is (isSound s) (isSound→ s) (→isSound s) (x .tells)
 
-  counted : Sound s → CountsRight (s .base) (s .counts)
-  counted x = let e = sound→entries s x in record { entries = e .counts; kept = e .good .kept }
+-- states and holds are not well
+pub not-held : {s : Store} {w : List ℕ} {r : Bool} → Truthful (Below (HeldWell (s .base .states) (s .base .holds)) (s .base .n)) r → not r ≡ true → Judged s w w false
+not-held {s} held e = record { tells = tells-no (λ x. told-no held e (λ p h. holds-of (s .base) p (sound→entries s x .good .wells p h))); later = refl }
 
-  pub all-right : ((p : ℕ) → p < s .base .n → Well (s .base) p) → LeadersRight (s .base) (s .leaders) → CountsRight (s .base) (s .counts) → Sound s
-  all-right wells leaders counts =
-      entries→sound s (record { good = record { wells = wells; kept = counts .kept }; leaders = leaders; counts = counts .entries })
+-- ---- the first two passes
 
-  pub by-counts : ((p : ℕ) → p < s .base .n → Well (s .base) p) → LeadersRight (s .base) (s .leaders) → {r : Bool} → Says (CountsRight (s .base) (s .counts)) r → Says (Sound s) r
-  by-counts wells leaders x = record { yes = λ e. all-right wells leaders (x .yes e); no = λ e y. x .no e (counted y) }
+-- what the first two passes leave: every piece is well, and the labels are counted
+pub record WellCounted (s : Store) (w w₁ : List ℕ) : Type 0 where
+  pub wells : Below (Well (s .base)) (s .base .n)
+  pub counted : CountedUp (s .base .n) (s .base .links) (s .base .holds) (s .leaders) w₁
+  pub kept : OutsideKept (s .base .n) w w₁
 
-  pub is-sound : {r : Bool} → Says (Sound s) r → r ≡ isSound s
-  is-sound x = says-is (isSound s) (isSound→ s) (→isSound s) x
-
--- ---- the passes over work whose first 8N entries are 0
-
-past : (n : ℕ) (l : List ℕ) → drop (8 * n) l ≡ drop (2 * n) (drop (6 * n) l)
-past n l = let e : 8 * n ≡ 6 * n + 2 * n = omega arith in ap (λ (m : ℕ). drop m l) e ∙ sym (drop-drop (2 * n) (6 * n) l)
-
-module _ (s : Store) (z : Sized s) (w : List ℕ) (empty : Clear (s .base .n) w) (wells : (p : ℕ) → p < s .base .n → Well (s .base) p)
-    (w₁ : List ℕ) (A : Apart (s .base .n) w w₁) where
-  pub ready : Ready (s .base .n) (s .base .states) (s .base .links) 2 w₁
-  ready = record {
-    lent = record { most = z .base .most; states-n = z .base .states; links-n = z .base .links; work-n = omega (arith, empty .size, A .size) };
-    closed = frozen-closed (s .base) (z .base .most) wells;
-    zeros = λ i h. A .before i (omega arith) ∙ empty .zeros i (omega arith);
+module _ {s : Store} (z : Sized s) {w : List ℕ} (empty : Clear (s .base .n) w) {r : Bool}
+    (held : Truthful (Below (HeldWell (s .base .states) (s .base .holds)) (s .base .n)) r) (yes : not r ≡ false) where
+  pub count-given : CountGiven (s .base .n) (s .base .states) (s .base .links) (s .leaders) (s .base .holds) w
+  count-given = record {
+    most = z .base .most;
+    states-n = z .base .states;
+    links-n = z .base .links;
+    leaders-n = z .leaders;
+    holds-n = z .base .holds;
+    work-n = empty .size;
+    states-most = λ q h. state-most (told-yes held yes q h);
+    zeros = λ l h. empty .zeros (6 * s .base .n + l) (omega arith);
   }
 
-  module _ (w₂ : List ℕ) (M : Marked (s .base .n) (s .base .links) (Of (s .base .states) 2) w₁ w₂) where
-    pub later : drop (8 * s .base .n) w₂ ≡ drop (8 * s .base .n) w
-    later = past (s .base .n) w₂ ∙ ap (drop (2 * s .base .n)) (M .later) ∙ sym (past (s .base .n) w₁) ∙ A .later
+  module _ {w₁ : List ℕ} {r₁ : Bool} (x : UpTested (s .base .n) (s .base .states) (s .base .links) (s .leaders) (s .base .holds) w w₁ r₁) where
+    wells-told : Truthful (Below (Well (s .base)) (s .base .n)) r₁
+    wells-told = well-linked (s .base) (told-yes held yes) (x .tells)
 
-    pub led : {r : Bool} → Says (Below (LeaderFound (s .base .n) (s .base .states) (s .leaders) w₂) (s .base .n)) r → Says (LeadersRight (s .base) (s .leaders)) r
-    led = says-same (found→ (s .base) (z .base .most) wells w₁ w₂ M (s .leaders)) (→found (s .base) (z .base .most) wells w₁ w₂ M (s .leaders))
+    -- links are not
+    pub not-linked : not r₁ ≡ true → Judged s w w₁ false
+    not-linked e = record { tells = tells-no (λ y. told-no wells-told e (sound→entries s y .good .wells)); later = x .kept .later }
 
-    module _ (right : LeadersRight (s .base) (s .leaders)) (C : Counted (s .base .n) (s .base .links) (s .base .holds) (s .leaders) w₁) where
-      -- the search leaves the counts
-      counted-on : Counted (s .base .n) (s .base .links) (s .base .holds) (s .leaders) w₂
-      counted-on l h = sym (getD-drop (6 * s .base .n) w₂ l 0) ∙ ap (λ (x : List ℕ). x ! l) (M .later) ∙ getD-drop (6 * s .base .n) w₁ l 0 ∙ C l h
+    pub well-counted : not r₁ ≡ false → WellCounted s w w₁
+    well-counted e = record { wells = told-yes wells-told e; counted = x .counted (was-yes e); kept = x .kept }
 
-      pub judged : {r : Bool} → Says (Below (CountFound (s .base .n) (s .leaders) (s .counts) w₂) (s .base .n)) r → Says (Sound s) r
-      judged x =
-          by-counts s wells right
-          (says-same (counts→ (s .base) (z .base .most) wells (s .leaders) (z .leaders) right w₂ counted-on (s .counts)) (→counts (s .base) (z .base .most) wells (s .leaders) (z .leaders) right w₂ counted-on (s .counts)) x)
+-- ---- the search, and the last two passes
+
+module _ {s : Store} {w w₁ : List ℕ} (z : Sized s) (C : WellCounted s w w₁) where
+  pub searchable : Clear (s .base .n) w → Searchable (s .base .n) (s .base .states) (s .base .links) 2 w₁
+  searchable empty = record {
+    lent = record { most = z .base .most; states-n = z .base .states; links-n = z .base .links; work-n = omega (arith, empty .size, C .kept .size) };
+    closed = frozen-closed (s .base) (z .base .most) (C .wells);
+    zeros = λ i h. C .kept .front i (omega arith) ∙ empty .zeros i (omega arith);
+  }
+
+  module _ {w₂ : List ℕ} (M : Grouped (s .base .n) (s .base .links) (Of (s .base .states) 2) w₁ w₂) where
+    later-same : drop (8 * s .base .n) w₂ ≡ drop (8 * s .base .n) w
+    later-same = behind-regions (s .base .n) w₂ ∙ ap (drop (2 * s .base .n)) (M .later) ∙ sym (behind-regions (s .base .n) w₁) ∙ C .kept .later
+
+    module _ {r : Bool} (found : Truthful (Below (LeaderFound (s .base .n) (s .base .states) (s .leaders) w₂) (s .base .n)) r) where
+      told : Truthful (LeadersRight (s .base) (s .leaders)) r
+      told = leaders-told (z .base .most) (C .wells) M (s .leaders) found
+
+      -- leaders are not right
+      pub not-led : not r ≡ true → Judged s w w₂ false
+      not-led e = record { tells = tells-no (λ x. told-no told e (sound→entries s x .leaders)); later = later-same }
+
+      module _ (yes : not r ≡ false) where
+        -- the search leaves the counts
+        counted-on : CountedUp (s .base .n) (s .base .links) (s .base .holds) (s .leaders) w₂
+        counted-on = record {
+          counts = λ l h.
+              sym (getD-drop (6 * s .base .n) w₂ l 0) ∙ ap (λ (x : List ℕ). x ! l) (M .later) ∙ getD-drop (6 * s .base .n) w₁ l 0 ∙ C .counted .counts l h;
+        }
+
+        -- they are: the counts decide
+        pub counts-judged : {r₁ : Bool} → Truthful (Below (CountFound (s .base .n) (s .leaders) (s .counts) w₂) (s .base .n)) r₁ → Judged s w w₂ r₁
+        counts-judged x =
+            let right = told-yes told yes in
+            let counts = counts-told (z .base .most) (C .wells) (z .leaders) right counted-on (s .counts) x in
+            record {
+              tells = record {
+                yes = λ e. entries→sound s (record {
+                  good = record { wells = C .wells; kept = counts .yes e .kept };
+                  leaders = right;
+                  counts = counts .yes e .entries;
+                });
+                no = λ e y. let entries = sound→entries s y in counts .no e (record { entries = entries .counts; kept = entries .good .kept });
+              };
+              later = later-same;
+            }
 
 -- ---- work: cleared, searched over, cleared again
 
-module _ (n : ℕ) (w : List ℕ) (size : 8 * n ≤ length w) where
-  pub clear-size : (w₁ : List ℕ) → w₁ ≡ replicate (8 * n) 0 ++ drop (8 * n) w → length w₁ ≡ length w
-  clear-size w₁ e = ap length e ∙ simp (length-append, length-replicate, length-drop) (omega arith)
+pub clears : {n : ℕ} (w : List ℕ) {w₁ : List ℕ} → 8 * n ≤ length w → w₁ ≡ replicate (8 * n) 0 ++ drop (8 * n) w → Clear n w₁
+clears {n} w {w₁} h e =
+    let size : length (replicate (8 * n) 0 ++ drop (8 * n) w) ≡ length w = simp (length-append, length-replicate, length-drop) (omega arith) in
+    record {
+      size = omega (arith, ap length e);
+      zeros = λ i l.
+          ap (λ (x : List ℕ). x ! i) e ∙ List·getD-append (replicate (8 * n) 0) (drop (8 * n) w) 0 i (omega (arith, length-replicate {A = ℕ} (8 * n) 0)) ∙
+          getD-replicate (8 * n) i 0 0 l;
+    }
 
-  pub clear-zero : (w₁ : List ℕ) → w₁ ≡ replicate (8 * n) 0 ++ drop (8 * n) w → (i : ℕ) → i < 8 * n → w₁ ! i ≡ 0
-  clear-zero w₁ e i h =
-      ap (λ (l : List ℕ). l ! i) e ∙ List·getD-append (replicate (8 * n) 0) (drop (8 * n) w) 0 i (omega (arith, length-replicate {A = ℕ} (8 * n) 0)) ∙
-      getD-replicate (8 * n) i 0 0 h
-
-  pub clear-later : (w₁ : List ℕ) → w₁ ≡ replicate (8 * n) 0 ++ drop (8 * n) w → drop (8 * n) w₁ ≡ drop (8 * n) w
-  clear-later w₁ e = ap (drop (8 * n)) e ∙ drop-at (replicate (8 * n) 0) (drop (8 * n) w) (8 * n) (length-replicate (8 * n) 0)
-
-  pub cleared : (w₁ w₂ w₃ : List ℕ) → w₁ ≡ replicate (8 * n) 0 ++ drop (8 * n) w → drop (8 * n) w₂ ≡ drop (8 * n) w₁ → w₃ ≡ replicate (8 * n) 0 ++ drop (8 * n) w₂ → w₃ ≡ clear n w
-  unfolding clear
-  cleared w₁ w₂ w₃ d l e = e ∙ ap (λ (x : List ℕ). replicate (8 * n) 0 ++ x) (l ∙ clear-later w₁ d)
+pub cleared-again : {s : Store} (w : List ℕ) {w₁ w₂ w₃ : List ℕ} {r : Bool} → w₁ ≡ replicate (8 * s .base .n) 0 ++ drop (8 * s .base .n) w → Judged s w₁ w₂ r
+    → w₃ ≡ replicate (8 * s .base .n) 0 ++ drop (8 * s .base .n) w₂ → w₃ ≡ clear (s .base .n) w
+unfolding clear
+cleared-again {s} w d j e =
+    let n : ℕ = s .base .n in
+    let later = ap (drop (8 * n)) d ∙ drop-at (replicate (8 * n) 0) (drop (8 * n) w) (8 * n) (length-replicate (8 * n) 0) in
+    e ∙ ap (λ (x : List ℕ). replicate (8 * n) 0 ++ x) (j .later ∙ later)

@@ -6,13 +6,11 @@ use mathlib.Core.List.{List}
 use Prim.Native.Nat.{ℕ, _+_, _*_, _≤_, _<_}
 use native.Mathlib.Omega.{arith}
 use Rattle.rules.specs.Limits.{mostHolds, none}
-use Rattle.rules.specs.Reach.{Link}
 use Rattle.rules.specs.Tables.{Base, state, linkAt, holdsOf}
 use Rattle.rules.specs.Words.{Frozen, Live, Well, wfree, wdraft, wfrozen}
-use Rattle.paths.specs.Ground.{_!_}
-use Rattle.paths.specs.Tools.{eq-or}
-use Rattle.areas.specs.Four.{Four, fourNone, oneAtMost, places}
-use Rattle.sound.specs.Says.{Says, Below, says-same}
+use Rattle.rules.specs.Lists.{_!_}
+use Rattle.laws.specs.Numbers.{eq-or}
+use Rattle.sound.specs.Truthful.{Truthful, Below, tells-same}
 
 -- a draft's link may name a live piece, a frozen piece's a frozen one, and any link none
 abbrev pub LinkWell : ℕ → List ℕ → ℕ → ℕ → Type 0
@@ -23,8 +21,8 @@ abbrev pub HoldsWell : ℕ → ℕ → Type 0
 HoldsWell s h = ((s < 2) × (h ≡ 0)) ⊎ ((s ≡ 2) × (h ≤ mostHolds))
 
 -- the state and the holds of p are well
-abbrev pub Held : List ℕ → List ℕ → ℕ → Type 0
-Held states holds p = HoldsWell (states ! p) (holds ! p)
+abbrev pub HeldWell : List ℕ → List ℕ → ℕ → Type 0
+HeldWell states holds p = HoldsWell (states ! p) (holds ! p)
 
 -- the four links of p are well
 abbrev pub Linked : ℕ → List ℕ → List ℕ → ℕ → Type 0
@@ -32,13 +30,13 @@ Linked n states links p = Below (λ j. LinkWell n states (states ! p) (links ! (
 
 -- ---- what each return of the tests says
 
-module _ (n : ℕ) (states : List ℕ) (s t : ℕ) (some : t ≡ none → ⊥) where
-  pub link-past : n ≤ t → LinkWell n states s t → ⊥
-  link-past h (inl e) = some e
-  link-past h (inr w) = omega (arith, w .0)
+module _ {n : ℕ} (states : List ℕ) {s t : ℕ} where
+  pub link-beyond : (t ≡ none → ⊥) → n ≤ t → LinkWell n states s t → ⊥
+  link-beyond some h (inl e) = some e
+  link-beyond some h (inr w) = omega (arith, w .0)
 
-  pub link-low : states ! t < s → LinkWell n states s t → ⊥
-  link-low h w =
+  pub link-low : (t ≡ none → ⊥) → states ! t < s → LinkWell n states s t → ⊥
+  link-low some h w =
       ⊎-elim
       (λ z. some z)
       (λ x. ⊎-elim (λ y. ⊎-elim (λ z. omega (arith, y .0)) (λ z. omega (arith, y .0)) (y .1)) (λ y. omega (arith, y .0, y .1)) (x .1))
@@ -46,31 +44,15 @@ module _ (n : ℕ) (states : List ℕ) (s t : ℕ) (some : t ≡ none → ⊥) w
 
   pub link-live : t < n → 0 < s → s ≤ 2 → states ! t ≤ 2 → s ≤ states ! t → LinkWell n states s t
   link-live h l m u x =
-      inr (h, ⊎-elim (λ e. inl (e, ⊎-elim inl (λ d. inr (omega (arith, d))) (eq-or (states ! t) 1))) (λ d. inr (omega (arith, d), omega (arith, d))) (eq-or s 1))
+      inr (
+        h,
+        ⊎-elim
+            (λ e. inl (e, ⊎-elim inl (λ d. inr (omega (arith, d))) (eq-or (states ! t) 1)))
+            (λ d. inr (omega (arith, d), omega (arith, d)))
+            (eq-or s 1),
+      )
 
-module _ (n : ℕ) (states links : List ℕ) (p w : ℕ) (f : Four links p w) where
-  pub links-empty : w ≡ fourNone → Linked n states links p
-  links-empty e j h = inl (f .empty e j h)
-
-  pub links-free : (w ≡ fourNone → ⊥) → states ! p ≡ 0 → Linked n states links p → ⊥
-  links-free d e x =
-      f .named d (λ k h. ⊎-elim (λ z. z) (λ y. absurd (⊎-elim (λ z. omega (arith, z .0)) (λ z. omega (arith, z .0)) (y .1))) (x k h))
-
-  first : LinkWell n states (states ! p) (links ! (4 * p)) → LinkWell n states (states ! p) (links ! (4 * p + 0))
-  first x = let e : 4 * p ≡ 4 * p + 0 = omega arith in subst (λ (i : ℕ). LinkWell n states (states ! p) (links ! i)) e x
-
-  pub links-one : oneAtMost ≤ w → LinkWell n states (states ! p) (links ! (4 * p)) → Linked n states links p
-  links-one l x =
-      places (λ j. LinkWell n states (states ! p) (links ! (4 * p + j))) (first x) (inl (f .rest l 1 (omega arith) (omega arith))) (inl (f .rest l 2 (omega arith) (omega arith))) (inl (f .rest l 3 (omega arith) (omega arith)))
-
-  pub links-four : LinkWell n states (states ! p) (links ! (4 * p)) → LinkWell n states (states ! p) (links ! (4 * p + 1)) → LinkWell n states (states ! p) (links ! (4 * p + 2))
-      → LinkWell n states (states ! p) (links ! (4 * p + 3)) → Linked n states links p
-  links-four x y z u = places (λ j. LinkWell n states (states ! p) (links ! (4 * p + j))) (first x) y z u
-
-  pub not-first : (LinkWell n states (states ! p) (links ! (4 * p)) → ⊥) → Linked n states links p → ⊥
-  not-first g x = let e : 4 * p + 0 ≡ 4 * p = omega arith in g (subst (λ (i : ℕ). LinkWell n states (states ! p) (links ! i)) e (x 0 (omega arith)))
-
-module _ (s h : ℕ) where
+module _ {s h : ℕ} where
   pub holds-wrong : s ≡ 2 → mostHolds < h → HoldsWell s h → ⊥
   holds-wrong e l w = ⊎-elim (λ x. omega (arith, x .0)) (λ x. omega (arith, x .1)) w
 
@@ -83,7 +65,7 @@ module _ (s h : ℕ) where
   pub state-most : HoldsWell s h → s ≤ 2
   state-most w = ⊎-elim (λ x. omega (arith, x .0)) (λ x. omega (arith, x .0)) w
 
--- ---- the words of 01
+-- ---- the words of the rulebook
 
 module _ (b : Base) where
   draft-link : (t : ℕ) → LinkWell (b .n) (b .states) 1 t → (t ≡ none) ⊎ Live b t
@@ -104,17 +86,24 @@ module _ (b : Base) where
   free-link t (inl e) = e
   free-link t (inr w) = absurd (⊎-elim (λ d. let z = d .0 in omega arith) (λ f. let z = f .0 in omega arith) (w .1))
 
-  pub →well : (p : ℕ) → HoldsWell (b .states ! p) (b .holds ! p) → Linked (b .n) (b .states) (b .links) p → Well b p
+  pub well-of : (p : ℕ) → HoldsWell (b .states ! p) (b .holds ! p) → Linked (b .n) (b .states) (b .links) p → Well b p
   unfolding state linkAt holdsOf
-  →well p (inl h) ls =
+  well-of p (inl h) ls =
       ⊎-elim
-      (λ e. wfree (record { is = e; links = λ k l. free-link (linkAt b p k) (subst (λ (s : ℕ). LinkWell (b .n) (b .states) s (linkAt b p k)) e (ls k l)); holds = h .1 }))
+      (λ e. wfree (record { is = e; links = λ k l. free-link (linkAt b p k) (at e k l); holds = h .1 }))
       (λ d.
       let e : state b p ≡ 1 = omega (arith, h .0, d) in
-      wdraft (record { is = e; links = λ k l. draft-link (linkAt b p k) (subst (λ (s : ℕ). LinkWell (b .n) (b .states) s (linkAt b p k)) e (ls k l)); holds = h .1 }))
+      wdraft (record { is = e; links = λ k l. draft-link (linkAt b p k) (at e k l); holds = h .1 }))
       (eq-or (state b p) 0)
-  →well p (inr h) ls =
-      wfrozen (record { is = h .0; links = λ k l. frozen-link (linkAt b p k) (subst (λ (s : ℕ). LinkWell (b .n) (b .states) s (linkAt b p k)) (h .0) (ls k l)); holds = h .1 })
+    where
+      at : {s : ℕ} → state b p ≡ s → (k : ℕ) → k < 4 → LinkWell (b .n) (b .states) s (linkAt b p k)
+      at e k l = subst (λ (s : ℕ). LinkWell (b .n) (b .states) s (linkAt b p k)) e (ls k l)
+  well-of p (inr h) ls =
+      wfrozen (record {
+        is = h .0;
+        links = λ k l. frozen-link (linkAt b p k) (subst (λ (s : ℕ). LinkWell (b .n) (b .states) s (linkAt b p k)) (h .0) (ls k l));
+        holds = h .1;
+      })
 
   pub holds-of : (p : ℕ) → Well b p → HoldsWell (b .states ! p) (b .holds ! p)
   unfolding state holdsOf
@@ -126,21 +115,13 @@ module _ (b : Base) where
   unfolding state linkAt
   links-of p (wfree w) k l = inl (w .links k l)
   links-of p (wdraft w) k l =
-      ⊎-elim (λ e. inl e) (λ v. inr (⊎-elim (λ d. (d .below, inl (w .is, inl (d .is)))) (λ f. (f .below, inl (w .is, inr (f .is)))) v)) (w .links k l)
+      ⊎-elim
+      (λ e. inl e)
+      (λ v. inr (⊎-elim (λ d. (d .below, inl (w .is, inl (d .is)))) (λ f. (f .below, inl (w .is, inr (f .is)))) v))
+      (w .links k l)
   links-of p (wfrozen w) k l = ⊎-elim (λ e. inl e) (λ f. inr (f .below, inr (w .is, f .is))) (w .links k l)
 
   -- where the holds are well, all is well exactly if the links are
-  pub well-linked : Below (Held (b .states) (b .holds)) (b .n) → {r : Bool} → Says (Below (Linked (b .n) (b .states) (b .links)) (b .n)) r → Says (Below (Well b) (b .n)) r
-  well-linked held = says-same (λ f p h. →well p (held p h) (f p h)) (λ f p h. links-of p (f p h))
-
-  -- what a live piece names is live
-  pub live-on : b .n ≤ 1024 → ((p : ℕ) → p < b .n → Well b p) → (r q : ℕ) → Live b r → Link (b .n) (linkAt b) r q → Live b q
-  live-on small wells r q v l = go (wells r (l .from))
-    where
-      named : (t : ℕ) → t ≡ q → (t ≡ none) ⊎ Live b t → Live b q
-      named t e = ⊎-elim (λ z. absurd (omega (arith, l .to))) (λ x. subst (Live b) e x)
-
-      go : Well b r → Live b q
-      go (wfree w) = absurd (⊎-elim (λ d. omega (arith, d .is, w .is)) (λ f. omega (arith, f .is, w .is)) v)
-      go (wdraft w) = named (linkAt b r (l .place)) (l .names) (w .links (l .place) (l .inside))
-      go (wfrozen w) = named (linkAt b r (l .place)) (l .names) (⊎-elim (λ z. inl z) (λ f. inr (inr f)) (w .links (l .place) (l .inside)))
+  pub well-linked : Below (HeldWell (b .states) (b .holds)) (b .n) → {r : Bool} → Truthful (Below (Linked (b .n) (b .states) (b .links)) (b .n)) r
+      → Truthful (Below (Well b) (b .n)) r
+  well-linked held = tells-same (λ f p h. well-of p (held p h) (f p h)) (λ f p h. links-of p (f p h))

@@ -2,27 +2,25 @@
 // Of the work, the first six regions of n entries are the search's, and the seventh has the counts.
 // A pass that only compares counts its faults and is not left early: such a loop compiles to vector instructions.
 ghost use mathlib.Core.Path.{_≡_};
-ghost use mathlib.Core.Bool.{true};
-ghost use Prim.Native.Nat.{ℕ, _+_, _*_, _≤_, _<_};
-ghost use lib.ListN.{length, drop};
-ghost use Rattle.rules.specs.Tables.{isSound};
-ghost use Rattle.rules.specs.Words.{Sound, Sized};
-ghost use Rattle.rules.specs.Calls.{storeOf, clear, Clear};
-ghost use Rattle.paths.specs.Ground.{_!_};
-ghost use Rattle.tallies.specs.Adding.{Labelled, Tallied, Added};
-ghost use Rattle.counts.specs.Added.{LinkAdded, Room, LaterSame, fourPlaces};
-ghost use Rattle.sound.specs.Says.{Says, Below};
+ghost use Prim.Native.Nat.{_*_, _≤_, _<_};
+ghost use lib.ListN.{length};
+ghost use Rattle.rules.specs.Tables.{isSound, storeOf};
+ghost use Rattle.rules.specs.Words.{Sized};
+ghost use Rattle.rules.specs.Calls.{clear, Clear};
+ghost use Rattle.sound.specs.Truthful.{Truthful, Below};
 ghost use Rattle.sound.specs.Faults.{Faults};
-ghost use Rattle.sound.specs.Wells.{LinkWell, Linked, HoldsWell, Held};
-ghost use Rattle.sound.specs.Leaders.{Led, LeaderFound, LeadersRight};
-ghost use Rattle.sound.specs.Counted.{Counted, Apart, CountFound, CountsRight};
+ghost use Rattle.sound.specs.Wells.{HoldsWell, HeldWell};
+ghost use Rattle.sound.specs.Tested.{LinkGiven, LinkTested, LinksGiven, LinksTested, TablesGiven, AllTested};
+ghost use Rattle.sound.specs.Leaders.{Led, LeaderFound};
+ghost use Rattle.sound.specs.Counted.{CountGiven, UpTested, CountFound};
+ghost use Rattle.sound.specs.Judged.{Judged};
 use rules::Store;
 
 // 1 unless the holds of a piece of this state are well: 0 unless frozen, and at most 1,000.
 fn holds_fault(state: u8, holds: u16) -> u16
     ensures { λ r. ⌜ Faults (HoldsWell state holds) 1 r ⌝ }
 {
-    if state == 2 {
+    if state == Store::FROZEN {
         if holds <= Store::HOLDS {
             return 0;
         }
@@ -40,7 +38,7 @@ fn holds_fault(state: u8, holds: u16) -> u16
 // Whether the states and the holds of all pieces are well.
 fn all_held(n: usize, states: &[u8], holds: &[u16]) -> bool
     requires { ⌜ (n ≤ 1024) × (length (now states) ≡ n) × (length (now holds) ≡ n) ⌝ }
-    ensures { λ r. ⌜ Says (Below (Held (now (states .entry)) (now (holds .entry))) n) r ⌝ }
+    ensures { λ r. ⌜ Truthful (Below (HeldWell (now (states .entry)) (now (holds .entry))) n) r ⌝ }
 {
     let mut faults: u16 = 0;
     let mut p = 0;
@@ -62,8 +60,8 @@ fn link_well(
     own: usize,
     target: u16,
 ) -> bool
-    requires { ⌜ (length (now states) ≡ n) × Below (λ q. now states ! q ≤ 2) n × (0 < state) × (state ≤ 2) × Labelled n (now leaders) (now counts) × Room n (now counts) ⌝ }
-    ensures { λ r. ⌜ Says (LinkWell n (now (states .entry)) state target) r × (r ≡ true → LinkAdded n (now (leaders .entry)) own target (now (counts .entry)) (now (counts .exit))) × LaterSame n (now (counts .entry)) (now (counts .exit)) ⌝ }
+    requires { ⌜ LinkGiven n (now states) (now leaders) (now counts) state ⌝ }
+    ensures { λ r. ⌜ LinkTested n (now (states .entry)) (now (leaders .entry)) state own target (now (counts .entry)) (now (counts .exit)) r ⌝ }
 {
     if target == Store::NONE {
         return true;
@@ -88,32 +86,63 @@ fn links_well(
     counts: &mut [u32],
     p: usize,
 ) -> bool
-    requires { ⌜ (length (now states) ≡ n) × (length (now links) ≡ 4 * n) × Below (λ q. now states ! q ≤ 2) n × (p < n) ⌝ }
-    requires { ⌜ Labelled n (now leaders) (now counts) × ((l : ℕ) → l < n → now counts ! l ≤ 67177471) ⌝ }
-    ensures { λ r. ⌜ Says (Linked n (now (states .entry)) (now (links .entry)) p) r × (r ≡ true → Added n (fourPlaces (now (links .entry)) (now (leaders .entry)) p) (now (counts .entry)) (now (counts .exit))) × LaterSame n (now (counts .entry)) (now (counts .exit)) ⌝ }
+    requires { ⌜ LinksGiven n (now states) (now links) (now leaders) (now counts) p ⌝ }
+    ensures { λ r. ⌜ LinksTested n (now (states .entry)) (now (links .entry)) (now (leaders .entry)) p (now (counts .entry)) (now (counts .exit)) r ⌝ }
 {
     let word = areas::four(links, p);
     if word == areas::FOUR_NONE {
         return true;
     }
     let state = states[p];
-    if state == 0 {
+    if state == Store::FREE {
         return false;
     }
     let own = leaders[p] as usize;
-    if !link_well(n, states, leaders, counts, state, own, links[4 * p]) {
+    if !link_well(
+        n,
+        states,
+        leaders,
+        counts,
+        state,
+        own,
+        links[Store::LINKS * p],
+    ) {
         return false;
     }
     if areas::ONE_AT_MOST <= word {
         return true;
     }
-    if !link_well(n, states, leaders, counts, state, own, links[4 * p + 1]) {
+    if !link_well(
+        n,
+        states,
+        leaders,
+        counts,
+        state,
+        own,
+        links[Store::LINKS * p + 1],
+    ) {
         return false;
     }
-    if !link_well(n, states, leaders, counts, state, own, links[4 * p + 2]) {
+    if !link_well(
+        n,
+        states,
+        leaders,
+        counts,
+        state,
+        own,
+        links[Store::LINKS * p + 2],
+    ) {
         return false;
     }
-    link_well(n, states, leaders, counts, state, own, links[4 * p + 3])
+    link_well(
+        n,
+        states,
+        leaders,
+        counts,
+        state,
+        own,
+        links[Store::LINKS * p + 3],
+    )
 }
 
 // Whether the links of all pieces are well. If they are, their holds and their links are counted, into entries that are 0.
@@ -125,9 +154,8 @@ fn all_linked(
     holds: &[u16],
     counts: &mut [u32],
 ) -> bool
-    requires { ⌜ (length (now states) ≡ n) × (length (now links) ≡ 4 * n) × (length (now holds) ≡ n) × Below (λ q. now states ! q ≤ 2) n ⌝ }
-    requires { ⌜ Labelled n (now leaders) (now counts) × ((l : ℕ) → l < n → now counts ! l ≡ 0) ⌝ }
-    ensures { λ r. ⌜ Says (Below (Linked n (now (states .entry)) (now (links .entry))) n) r × (r ≡ true → Tallied n (now (links .entry)) (now (holds .entry)) (now (leaders .entry)) (now (counts .entry)) (now (counts .exit))) × LaterSame n (now (counts .entry)) (now (counts .exit)) ⌝ }
+    requires { ⌜ TablesGiven n (now states) (now links) (now leaders) (now holds) (now counts) ⌝ }
+    ensures { λ r. ⌜ AllTested n (now (states .entry)) (now (links .entry)) (now (leaders .entry)) (now (holds .entry)) (now (counts .entry)) (now (counts .exit)) r ⌝ }
 {
     let mut p = 0;
     while p < n {
@@ -149,9 +177,8 @@ fn count_up(
     holds: &[u16],
     work: &mut [u32],
 ) -> bool
-    requires { ⌜ (n ≤ 1024) × (length (now states) ≡ n) × (length (now links) ≡ 4 * n) × (length (now leaders) ≡ n) × (length (now holds) ≡ n) × (8 * n ≤ length (now work)) ⌝ }
-    requires { ⌜ Below (λ q. now states ! q ≤ 2) n × ((l : ℕ) → l < n → now work ! (6 * n + l) ≡ 0) ⌝ }
-    ensures { λ r. ⌜ Says (Below (Linked n (now (states .entry)) (now (links .entry))) n) r × (r ≡ true → Counted n (now (links .entry)) (now (holds .entry)) (now (leaders .entry)) (now (work .exit))) × Apart n (now (work .entry)) (now (work .exit)) ⌝ }
+    requires { ⌜ CountGiven n (now states) (now links) (now leaders) (now holds) (now work) ⌝ }
+    ensures { λ r. ⌜ UpTested n (now (states .entry)) (now (links .entry)) (now (leaders .entry)) (now (holds .entry)) (now (work .entry)) (now (work .exit)) r ⌝ }
 {
     let at = 6 * n;
     let linked = all_linked(n, states, links, leaders, holds, &mut work[at..]);
@@ -162,7 +189,7 @@ fn count_up(
 fn leader_fault(state: u8, leader: u16, found: u32) -> u32
     ensures { λ r. ⌜ Faults (Led state leader found) 1 r ⌝ }
 {
-    if state == 2 {
+    if state == Store::FROZEN {
         if leader as u32 == found {
             return 0;
         }
@@ -177,7 +204,7 @@ fn leader_fault(state: u8, leader: u16, found: u32) -> u32
 // Whether all leaders are those found.
 fn leaders_found(n: usize, states: &[u8], leaders: &[u16], work: &[u32]) -> bool
     requires { ⌜ (n ≤ 1024) × (length (now states) ≡ n) × (length (now leaders) ≡ n) × (8 * n ≤ length (now work)) ⌝ }
-    ensures { λ r. ⌜ Says (Below (LeaderFound n (now (states .entry)) (now (leaders .entry)) (now (work .entry))) n) r ⌝ }
+    ensures { λ r. ⌜ Truthful (Below (LeaderFound n (now (states .entry)) (now (leaders .entry)) (now (work .entry))) n) r ⌝ }
 {
     let mut faults: u32 = 0;
     let mut p = 0;
@@ -214,7 +241,7 @@ fn idle_fault(leader: u16, p: u16, count: u32) -> u32
 // Whether all counts are those counted, and no group has count 0.
 fn counts_found(n: usize, leaders: &[u16], counts: &[u32], work: &[u32]) -> bool
     requires { ⌜ (n ≤ 1024) × (length (now leaders) ≡ n) × (length (now counts) ≡ n) × (8 * n ≤ length (now work)) ⌝ }
-    ensures { λ r. ⌜ Says (Below (CountFound n (now (leaders .entry)) (now (counts .entry)) (now (work .entry))) n) r ⌝ }
+    ensures { λ r. ⌜ Truthful (Below (CountFound n (now (leaders .entry)) (now (counts .entry)) (now (work .entry))) n) r ⌝ }
 {
     let mut faults: u32 = 0;
     let mut p = 0;
@@ -239,7 +266,7 @@ fn judge(
     work: &mut [u32],
 ) -> bool
     requires { ⌜ Sized (storeOf n (now states) (now links) (now leaders) (now holds) (now counts)) × Clear n (now work) ⌝ }
-    ensures { λ r. ⌜ Says (Sound (storeOf n (now (states .entry)) (now (links .entry)) (now (leaders .entry)) (now (holds .entry)) (now (counts .entry)))) r × (drop (8 * n) (now (work .exit)) ≡ drop (8 * n) (now (work .entry))) ⌝ }
+    ensures { λ r. ⌜ Judged (storeOf n (now (states .entry)) (now (links .entry)) (now (leaders .entry)) (now (holds .entry)) (now (counts .entry))) (now (work .entry)) (now (work .exit)) r ⌝ }
 {
     if !all_held(n, states, holds) {
         return false;
@@ -265,7 +292,8 @@ pub fn is_sound(
     work: &mut [u32],
 ) -> bool
     requires { ⌜ (1 ≤ n) × Sized (storeOf n (now states) (now links) (now leaders) (now holds) (now counts)) × (8 * n ≤ length (now work)) ⌝ }
-    ensures { λ r. ⌜ (r ≡ isSound (storeOf n (now (states .entry)) (now (links .entry)) (now (leaders .entry)) (now (holds .entry)) (now (counts .entry)))) × (now (work .exit) ≡ clear n (now (work .entry))) ⌝ }
+    ensures { λ r. ⌜ (r ≡ isSound (storeOf n (now (states .entry)) (now (links .entry)) (now (leaders .entry)) (now (holds .entry)) (now (counts .entry)))) ×
+        (now (work .exit) ≡ clear n (now (work .entry))) ⌝ }
 {
     areas::fill_u32(work, 8 * n, 0);
     let sound = judge(n, states, links, leaders, holds, counts, work);

@@ -1,6 +1,7 @@
 // The nine public calls: sizes, soundness, then the work.
 ghost use mathlib.Core.List.{[]};
-ghost use Rattle.rules.specs.Calls.{Call, start, does, check, storeOf, areasOf, answered, saw, checked, outcome, Promise};
+ghost use Rattle.rules.specs.Tables.{storeOf};
+ghost use Rattle.rules.specs.Calls.{start, does, check, areasOf, answered, saw, checked, outcome, Promise};
 ghost use Rattle.rules.specs.declared.Command.the-variants.{New, Set, Freeze, Acquire, Release, Bin, Look};
 use entering::Entry;
 use rules::Answer;
@@ -26,7 +27,7 @@ pub fn start(
         return Answer::Refused(Refusal::Size);
     }
     areas::fill_u8(states, n, 0);
-    areas::fill_u16(links, 4 * n, Store::NONE);
+    areas::fill_u16(links, Store::LINKS * n, Store::NONE);
     areas::fill_u16(leaders, n, Store::NONE);
     areas::fill_u16(holds, n, 0);
     areas::fill_u32(counts, n, 0);
@@ -46,14 +47,15 @@ pub fn new(
 ) -> Answer
     ensures { λ r. ⌜ Promise (does New)
         (areasOf (storeOf n (now (states .entry)) (now (links .entry)) (now (leaders .entry)) (now (holds .entry)) (now (counts .entry))) (now (list .entry)) (now (work .entry)))
-        (outcome (answered r) (areasOf (storeOf n (now (states .exit)) (now (links .entry)) (now (leaders .entry)) (now (holds .entry)) (now (counts .entry))) (now (list .entry)) (now (work .exit)))) ⌝ }
+        (outcome (answered r) (areasOf (storeOf n (now (states .exit)) (now (links .entry)) (now (leaders .entry)) (now (holds .entry)) (now (counts .entry)))
+        (now (list .entry)) (now (work .exit)))) ⌝ }
 {
     match entering::enter(n, states, links, leaders, holds, counts, list.len(), work) {
         Entry::Short => Answer::Refused(Refusal::Size),
         Entry::Flawed => Answer::Refused(Refusal::Unsound),
         Entry::Sound => {
             let from = areas::none_free(n, states);
-            giving::new(n, states, links, leaders, holds, counts, from)
+            giving::new(n, states, from)
         }
     }
 }
@@ -74,7 +76,8 @@ pub fn set(
 ) -> Answer
     ensures { λ r. ⌜ Promise (does (Set p k t))
         (areasOf (storeOf n (now (states .entry)) (now (links .entry)) (now (leaders .entry)) (now (holds .entry)) (now (counts .entry))) (now (list .entry)) (now (work .entry)))
-        (outcome (answered r) (areasOf (storeOf n (now (states .exit)) (now (links .exit)) (now (leaders .exit)) (now (holds .entry)) (now (counts .exit))) (now (list .exit)) (now (work .exit)))) ⌝ }
+        (outcome (answered r) (areasOf (storeOf n (now (states .exit)) (now (links .exit)) (now (leaders .exit)) (now (holds .entry)) (now (counts .exit)))
+        (now (list .exit)) (now (work .exit)))) ⌝ }
 {
     match entering::enter(n, states, links, leaders, holds, counts, list.len(), work) {
         Entry::Short => Answer::Refused(Refusal::Size),
@@ -97,7 +100,8 @@ pub fn freeze(
 ) -> Answer
     ensures { λ r. ⌜ Promise (does (Freeze p))
         (areasOf (storeOf n (now (states .entry)) (now (links .entry)) (now (leaders .entry)) (now (holds .entry)) (now (counts .entry))) (now (list .entry)) (now (work .entry)))
-        (outcome (answered r) (areasOf (storeOf n (now (states .exit)) (now (links .entry)) (now (leaders .exit)) (now (holds .exit)) (now (counts .exit))) (now (list .entry)) (now (work .exit)))) ⌝ }
+        (outcome (answered r) (areasOf (storeOf n (now (states .exit)) (now (links .entry)) (now (leaders .exit)) (now (holds .exit)) (now (counts .exit)))
+        (now (list .entry)) (now (work .exit)))) ⌝ }
 {
     match entering::enter(n, states, links, leaders, holds, counts, list.len(), work) {
         Entry::Short => Answer::Refused(Refusal::Size),
@@ -120,12 +124,13 @@ pub fn acquire(
 ) -> Answer
     ensures { λ r. ⌜ Promise (does (Acquire p))
         (areasOf (storeOf n (now (states .entry)) (now (links .entry)) (now (leaders .entry)) (now (holds .entry)) (now (counts .entry))) (now (list .entry)) (now (work .entry)))
-        (outcome (answered r) (areasOf (storeOf n (now (states .entry)) (now (links .entry)) (now (leaders .entry)) (now (holds .exit)) (now (counts .exit))) (now (list .entry)) (now (work .exit)))) ⌝ }
+        (outcome (answered r) (areasOf (storeOf n (now (states .entry)) (now (links .entry)) (now (leaders .entry)) (now (holds .exit)) (now (counts .exit)))
+        (now (list .entry)) (now (work .exit)))) ⌝ }
 {
     match entering::enter(n, states, links, leaders, holds, counts, list.len(), work) {
         Entry::Short => Answer::Refused(Refusal::Size),
         Entry::Flawed => Answer::Refused(Refusal::Unsound),
-        Entry::Sound => holding::acquire(n, states, links, leaders, holds, counts, p),
+        Entry::Sound => holding::acquire(n, states, leaders, holds, counts, p),
     }
 }
 
@@ -166,7 +171,8 @@ pub fn bin(
 ) -> Answer
     ensures { λ r. ⌜ Promise (does (Bin p))
         (areasOf (storeOf n (now (states .entry)) (now (links .entry)) (now (leaders .entry)) (now (holds .entry)) (now (counts .entry))) (now (list .entry)) (now (work .entry)))
-        (outcome (answered r) (areasOf (storeOf n (now (states .exit)) (now (links .exit)) (now (leaders .exit)) (now (holds .entry)) (now (counts .exit))) (now (list .exit)) (now (work .exit)))) ⌝ }
+        (outcome (answered r) (areasOf (storeOf n (now (states .exit)) (now (links .exit)) (now (leaders .exit)) (now (holds .entry)) (now (counts .exit)))
+        (now (list .exit)) (now (work .exit)))) ⌝ }
 {
     match entering::enter(n, states, links, leaders, holds, counts, list.len(), work) {
         Entry::Short => Answer::Refused(Refusal::Size),
@@ -193,7 +199,7 @@ pub fn look(
     match entering::enter(n, states, links, leaders, holds, counts, n, work) {
         Entry::Short => Seen::Unseen(Refusal::Size),
         Entry::Flawed => Seen::Unseen(Refusal::Unsound),
-        Entry::Sound => giving::look(n, states, links, leaders, holds, counts, p),
+        Entry::Sound => looking::look(n, states, links, leaders, holds, counts, p),
     }
 }
 

@@ -1,7 +1,7 @@
 -- A lent trace whose output fills the room just so.
-use mathlib.Core.Path.{_≡_, refl, sym, ap, _∙_}
+use mathlib.Core.Path.{_≡_, sym, ap, _∙_}
 use mathlib.Core.Bool.{Bool, true, false}
-use mathlib.Core.List.{List, [], _++_, append-nil}
+use mathlib.Core.List.{List, _++_, append-nil}
 use Prim.Native.Nat.{ℕ, _-_, _≤_, _<_}
 use native.Mathlib.Omega.{arith}
 use lib.Dec.{leb, le→leb}
@@ -16,17 +16,23 @@ use Rattle.lending.specs.Lent.{given}
 filled : (out room : List ℕ) → length out ≡ length room → out ++ replicate (length room - length out) 0 ≡ out
 filled out room e = let k : length room - length out ≡ 0 = omega arith in ap (λ (m : ℕ). out ++ replicate m 0) k ∙ append-nil out
 
-module _ (text room room′ : List ℕ) (r : ℕ) (e : given r room′ ≡ lentTrace text room) where
+-- the output, then zeros
+abbrev padded : List ℕ → List ℕ → Given
+padded text room = given (length (trace text)) (trace text ++ replicate (length room - length (trace text)) 0)
+
+module _ (text room : List ℕ) {room′ : List ℕ} {r : ℕ} (e : given r room′ ≡ lentTrace text room) where
   -- where the result is the room's length, the room has the output
   pub fits-just : length room < 9223372036854775808 → r ≡ length room → trace text ≡ room′
   unfolding lentTrace inRoom
   fits-just b s = by-long (leb (length text) mostTrace) e
     where
-      by-room : (t : Bool) → given r room′ ≡ pick t (record { result = length (trace text); room = trace text ++ replicate (length room - length (trace text)) 0 }) (record { result = 9223372036854775819; room = replicate (length room) 0 }) → trace text ≡ room′
-      by-room true h = let k : r ≡ length (trace text) = ap (λ (g : Given). g .result) h in sym (ap (λ (g : Given). g .room) h ∙ filled (trace text) room (omega arith))
+      by-room : (t : Bool) → given r room′ ≡ pick t (padded text room) (given 9223372036854775819 (replicate (length room) 0)) → trace text ≡ room′
+      by-room true h =
+          let k : r ≡ length (trace text) = ap (λ (g : Given). g .result) h in
+          sym (ap (λ (g : Given). g .room) h ∙ filled (trace text) room (omega arith))
       by-room false h = absurd (let k : r ≡ 9223372036854775819 = ap (λ (g : Given). g .result) h in omega arith)
 
-      by-long : (t : Bool) → given r room′ ≡ pick t (inRoom (trace text) room) (record { result = 9223372036854775818; room = room }) → trace text ≡ room′
+      by-long : (t : Bool) → given r room′ ≡ pick t (inRoom (trace text) room) (given 9223372036854775818 room) → trace text ≡ room′
       by-long true h = by-room (leb (length (trace text)) (length room)) h
       by-long false h = absurd (let k : r ≡ 9223372036854775818 = ap (λ (g : Given). g .result) h in omega arith)
 
@@ -35,7 +41,7 @@ module _ (text room room′ : List ℕ) (r : ℕ) (e : given r room′ ≡ lentT
   unfolding lentTrace inRoom
   just-fits h s = (ap (λ (g : Given). g .result) is ∙ s, ap (λ (g : Given). g .room) is ∙ filled (trace text) room s)
     where
-      is : given r room′ ≡ given (length (trace text)) (trace text ++ replicate (length room - length (trace text)) 0)
+      is : given r room′ ≡ padded text room
       is =
           e ∙ pick-true (leb (length text) mostTrace) _ _ (le→leb (length text) mostTrace h)
           ∙ pick-true (leb (length (trace text)) (length room)) _ _ (le→leb (length (trace text)) (length room) (omega arith))

@@ -10,7 +10,8 @@ use libc::STDOUT_FILENO;
 // Whether a trace gives just this output, by way of a room that fits it.
 fn gives(text: &[u8], output: &[u8], room: &mut [u8]) -> bool
     requires { ⌜ length (now room) ≡ length (now output) ⌝ }
-    ensures { λ r. ⌜ (r ≡ true → trace (now (text .entry)) ≡ now (output .entry)) × (length (now (text .entry)) ≤ mostTrace → trace (now (text .entry)) ≡ now (output .entry) → r ≡ true) ⌝ }
+    ensures { λ r. ⌜ (r ≡ true → trace (now (text .entry)) ≡ now (output .entry)) ×
+        (length (now (text .entry)) ≤ mostTrace → trace (now (text .entry)) ≡ now (output .entry) → r ≡ true) ⌝ }
 {
     let size = lending::lent_trace(text, room);
     if size != output.len() as u64 {

@@ -6,8 +6,11 @@ use Prim.Native.Nat.{ℕ, _+_, _≤_, _<_}
 use native.Mathlib.Omega.{arith}
 use lib.ListN.{length, set, length-set, drop}
 use lib.Seq.{drop-set-lt}
-use Rattle.tallies.specs.Sums.{set-cases}
-use Rattle.tallies.specs.Tally.{_!_, CountsMatch}
+use Rattle.rules.specs.Lists.{_!_}
+use Rattle.rules.specs.Limits.{none}
+use Rattle.laws.specs.Numbers.{set-cases}
+use Rattle.tallies.specs.Sums.{getD-any}
+use Rattle.tallies.specs.Tally.{label, CountsMatch}
 
 -- each piece has a label, and each label a count
 pub record Labelled (n : ℕ) (leaders counts : List ℕ) : Type 0 where
@@ -15,11 +18,26 @@ pub record Labelled (n : ℕ) (leaders counts : List ℕ) : Type 0 where
   pub leaders-n : length leaders ≡ n
   pub counts-n : n ≤ length counts
 
+-- the label of a piece is its entry
+pub label-at : {n : ℕ} {leaders counts : List ℕ} → Labelled n leaders counts → (q : ℕ) → q < n → label leaders q ≡ leaders ! q
+label-at {leaders = leaders} z q h = getD-any leaders q none 0 (omega (arith, z .leaders-n))
+
 -- the counts of all labels; later entries are as they were
 pub record Tallied (n : ℕ) (links holds leaders counts₀ counts : List ℕ) : Type 0 where
   pub size : length counts ≡ length counts₀
   pub matches : CountsMatch n links holds leaders counts
   pub later : drop n counts ≡ drop n counts₀
+
+-- the entries from n on are as they were
+pub record LaterSame (n : ℕ) (c c′ : List ℕ) : Type 0 where
+  pub size : length c′ ≡ length c
+  pub later : drop n c′ ≡ drop n c
+
+pub later-none : {n : ℕ} {c : List ℕ} → LaterSame n c c
+later-none = record { size = refl; later = refl }
+
+pub later-then : {n : ℕ} {a b c : List ℕ} → LaterSame n a b → LaterSame n b c → LaterSame n a c
+later-then x y = record { size = y .size ∙ x .size; later = y .later ∙ x .later }
 
 -- each count below n has f of its label more
 pub record Added (n : ℕ) (f : ℕ → ℕ) (c c′ : List ℕ) : Type 0 where
@@ -27,11 +45,12 @@ pub record Added (n : ℕ) (f : ℕ → ℕ) (c c′ : List ℕ) : Type 0 where
   pub sums : (l : ℕ) → l < n → c′ ! l ≡ c ! l + f l
   pub later : drop n c′ ≡ drop n c
 
-pub added-none : (n : ℕ) (f : ℕ → ℕ) (c : List ℕ) → ((l : ℕ) → l < n → f l ≡ 0) → Added n f c c
-added-none n f c h = record { size = refl; sums = λ l u. omega (arith, h l u); later = refl }
+pub added-none : {n : ℕ} {f : ℕ → ℕ} {c : List ℕ} → ((l : ℕ) → l < n → f l ≡ 0) → Added n f c c
+added-none h = record { size = refl; sums = λ l u. omega (arith, h l u); later = refl }
 
-pub added-one : (n : ℕ) (f : ℕ → ℕ) (c : List ℕ) (l m : ℕ) → l < n → n ≤ length c → f l ≡ m → ((j : ℕ) → j < n → (j ≡ l → ⊥) → f j ≡ 0) → Added n f c (set c l (c ! l + m))
-added-one n f c l m h z e g = record {
+pub added-one : {n : ℕ} {f : ℕ → ℕ} {c : List ℕ} (l m : ℕ) → l < n → n ≤ length c → f l ≡ m → ((j : ℕ) → j < n → (j ≡ l → ⊥) → f j ≡ 0)
+    → Added n f c (set c l (c ! l + m))
+added-one {n} {f} {c} l m h z e g = record {
   size = length-set c l (c ! l + m);
   sums = λ j u.
       ⊎-elim
@@ -46,6 +65,9 @@ added-then x y = record { size = y .size ∙ x .size; sums = λ l h. omega (arit
 
 pub added-same : {n : ℕ} {f g : ℕ → ℕ} {a b : List ℕ} → ((l : ℕ) → l < n → f l ≡ g l) → Added n f a b → Added n g a b
 added-same e x = record { size = x .size; sums = λ l h. omega (arith, x .sums l h, e l h); later = x .later }
+
+pub added-later : {n : ℕ} {f : ℕ → ℕ} {a b : List ℕ} → Added n f a b → LaterSame n a b
+added-later x = record { size = x .size; later = x .later }
 
 -- the counts keep their labels
 pub still : {n : ℕ} {f : ℕ → ℕ} {leaders c c′ : List ℕ} → Labelled n leaders c → Added n f c c′ → Labelled n leaders c′

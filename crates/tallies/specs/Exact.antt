@@ -1,11 +1,11 @@
--- Labels that are the groups' leaders: the counts by label are document 01's counts.
+-- Labels that are the groups' leaders: the counts by label are the rulebook's counts.
 use mathlib.Core.Path.{_≡_, refl, sym, ap, ap₂, _∙_, subst}
-use mathlib.Core.Logic.{_⊎_, ⊎-elim}
+use mathlib.Core.Logic.{⊎-elim}
 use mathlib.Core.Bool.{Bool, true, false, not}
 use mathlib.Core.List.{List}
-use Prim.Native.Nat.{ℕ, zero, suc, _+_, _-_, _*_, _/_, _≤_, _<_}
+use Prim.Native.Nat.{ℕ, zero, suc, _+_, _*_, _/_, _≤_, _<_}
 use native.Mathlib.Omega.{arith}
-use lib.Dec.{T, not-T, eqb, eqb→eq}
+use lib.Dec.{not-T, eqb, eqb→eq}
 use lib.ListN.{length, List·getD-eq-default}
 use borrow.Author.Tests.{ne-eqb}
 use Rattle.rules.specs.Tests.{_&_, _or_, onlyIf}
@@ -13,11 +13,14 @@ use Rattle.rules.specs.Limits.{none}
 use Rattle.rules.specs.Below.{sum}
 use Rattle.rules.specs.Tables.{Base, state, isDraft, isFrozen, isLive, linkAt, holdsOf, inGroup, leaderOf, places, countOf, countEntry}
 use Rattle.rules.specs.Words.{Frozen, Group, Leader, FreeWell, Well, wfree, wdraft, wfrozen}
+use Rattle.rules.specs.Lists.{_!_}
+use Rattle.laws.specs.Tests.{same-test}
 use Rattle.laws.specs.Words.{trans, eqb-of, inGroup→, →inGroup, isFrozen→, leaderOf-is, leader-one}
 use Rattle.laws.specs.Sound.{countEntry-leads, countEntry-led, countEntry-other}
-use Rattle.tallies.specs.Sums.{eq-or, lt-or, sum-cong, onlyIf-false}
 use Rattle.laws.specs.Counts.{sum-pos}
-use Rattle.tallies.specs.Tally.{_!_, label, cross, held, placed, tally}
+use Rattle.laws.specs.Numbers.{eq-or, lt-or}
+use Rattle.tallies.specs.Sums.{sum-cong, onlyIf-false}
+use Rattle.tallies.specs.Tally.{label, cross, held, placed, tally}
 use Rattle.tallies.specs.Moves.{cross-off}
 
 -- the label of a frozen piece is its leader, and others have none
@@ -30,12 +33,6 @@ pub record Exact (b : Base) (leaders : List ℕ) : Type 0 where
 -- a table with one label for each piece has none past its end
 pub label-past : (n : ℕ) (leaders : List ℕ) (p : ℕ) → length leaders ≡ n → n ≤ p → label leaders p ≡ none
 label-past n leaders p e h = List·getD-eq-default leaders none (omega arith)
-
-pub same-test : (x y : Bool) → (T x → T y) → (T y → T x) → x ≡ y
-same-test true true f g = refl
-same-test true false f g = absurd (f tt)
-same-test false true f g = absurd (g tt)
-same-test false false f g = refl
 
 -- a sum over 4 n places is one over n pieces of sums over four
 pub sum-flat : (f : ℕ → ℕ) (n : ℕ) → sum f (4 * n) ≡ sum (λ r. sum (λ k. f (4 * r + k)) 4) n
@@ -71,8 +68,16 @@ module _ (b : Base) (leaders : List ℕ) (x : Exact b leaders) where
   label-of p q f g =
       let lp = x .leads p f in
       let lq = x .leads q (g .frozen) in
-      let u : label leaders q ≤ label leaders p = lq .lowest (label leaders p) (record { frozen = lp .member .frozen; there = trans (g .back) (lp .member .there); back = trans (lp .member .back) (g .there) }) in
-      let v : label leaders p ≤ label leaders q = lp .lowest (label leaders q) (record { frozen = lq .member .frozen; there = trans (g .there) (lq .member .there); back = trans (lq .member .back) (g .back) }) in
+      let u : label leaders q ≤ label leaders p = lq .lowest (label leaders p) (record {
+        frozen = lp .member .frozen;
+        there = trans (g .back) (lp .member .there);
+        back = trans (lp .member .back) (g .there);
+      }) in
+      let v : label leaders p ≤ label leaders q = lp .lowest (label leaders q) (record {
+        frozen = lq .member .frozen;
+        there = trans (g .there) (lq .member .there);
+        back = trans (lq .member .back) (g .back);
+      }) in
       omega arith
 
   -- a label's own label is itself
@@ -97,11 +102,15 @@ module _ (b : Base) (leaders : List ℕ) (x : Exact b leaders) where
 
     free-term : (r k : ℕ) → FreeWell b r → k < 4 → inGroup b L (linkAt b r k) ≡ false
     free-term r k w h =
-        in-group (linkAt b r k) ∙ ne-eqb (label leaders (linkAt b r k)) L (λ e. absurd (omega (arith, label-past (b .n) leaders (linkAt b r k) (x .size) (omega (arith, w .links k h, x .most)), fL .below, x .most)))
+        let past = label-past (b .n) leaders (linkAt b r k) (x .size) (omega (arith, w .links k h, x .most)) in
+        in-group (linkAt b r k) ∙ ne-eqb (label leaders (linkAt b r k)) L (λ e. absurd (omega (arith, fL .below, x .most)))
 
     live-test : (r : ℕ) → Well b r → ((k : ℕ) → k < 4 → (isLive b r & (inGroup b L (linkAt b r k) & not (inGroup b L r))) ≡ (inGroup b L (linkAt b r k) & not (inGroup b L r)))
     unfolding isLive isDraft isFrozen
-    live-test r (wfree w) k h = ap (λ (u : Bool). (eqb (state b r) 1 or eqb (state b r) 2) & (u & not (inGroup b L r))) (free-term r k w h) ∙ off (eqb (state b r) 1 or eqb (state b r) 2) ∙ ap (λ (u : Bool). u & not (inGroup b L r)) (sym (free-term r k w h))
+    live-test r (wfree w) k h =
+        let live : Bool = eqb (state b r) 1 or eqb (state b r) 2 in
+        let none-in = free-term r k w h in
+        ap (λ (u : Bool). live & (u & not (inGroup b L r))) none-in ∙ off live ∙ ap (λ (u : Bool). u & not (inGroup b L r)) (sym none-in)
       where
         off : (u : Bool) → (u & false) ≡ false
         off true = refl
@@ -145,8 +154,10 @@ module _ (b : Base) (leaders : List ℕ) (x : Exact b leaders) where
   pub tally-unused : (L : ℕ) → ((q : ℕ) → label leaders q ≡ L → ⊥) → tally (b .n) (b .links) (b .holds) leaders L ≡ 0
   unfolding tally
   tally-unused L no-one =
-      let u : sum (held (b .holds) leaders L) (b .n) ≡ 0 = zero-sum (held (b .holds) leaders L) (b .n) (λ q h. unfold held in onlyIf-false _ _ (ne-eqb (label leaders q) L (no-one q))) in
-      let v : sum (placed (b .links) leaders L) (4 * b .n) ≡ 0 = zero-sum (placed (b .links) leaders L) (4 * b .n) (λ i h. unfold placed in cross-off leaders L i (b .links ! i) (no-one (b .links ! i))) in
+      let u : sum (held (b .holds) leaders L) (b .n) ≡ 0 =
+      zero-sum (held (b .holds) leaders L) (b .n) (λ q h. unfold held in onlyIf-false _ _ (ne-eqb (label leaders q) L (no-one q))) in
+      let v : sum (placed (b .links) leaders L) (4 * b .n) ≡ 0 =
+      zero-sum (placed (b .links) leaders L) (4 * b .n) (λ i h. unfold placed in cross-off leaders L i (b .links ! i) (no-one (b .links ! i))) in
       omega arith
     where
       zero-sum : (f : ℕ → ℕ) (k : ℕ) → ((q : ℕ) → q < k → f q ≡ 0) → sum f k ≡ 0

@@ -11,11 +11,13 @@ use Rattle.rules.specs.Limits.{none}
 use Rattle.rules.specs.Below.{table}
 use Rattle.rules.specs.Tables.{Base, Store, state, isFrozen, leaderOf, leaderEntry, countEntry, finish}
 use Rattle.rules.specs.Words.{Frozen, Well}
+use Rattle.rules.specs.Lists.{_!_}
 use Rattle.laws.specs.Below.{getD-table, length-table}
 use Rattle.laws.specs.Words.{isFrozen→, leaderOf-is, leader-one}
 use Rattle.laws.specs.Sound.{leaderEntry-frozen, leaderEntry-other}
-use Rattle.tallies.specs.Sums.{eq-or, getD-any}
-use Rattle.tallies.specs.Tally.{_!_, label, CountsMatch}
+use Rattle.laws.specs.Numbers.{eq-or}
+use Rattle.tallies.specs.Sums.{getD-any}
+use Rattle.tallies.specs.Tally.{label, CountsMatch}
 use Rattle.tallies.specs.Exact.{Exact, tally-entry}
 
 module _ (b : Base) (leaders : List ℕ) (x : Exact b leaders) where

@@ -1,6 +1,6 @@
 -- What a hold and a link do to the counts, with the labels fixed.
 use mathlib.Core.Path.{_≡_, refl, sym, ap, ap₂, _∙_}
-use mathlib.Core.Logic.{_⊎_, ⊎-elim}
+use mathlib.Core.Logic.{⊎-elim}
 use mathlib.Core.Bool.{Bool, true, false, not}
 use mathlib.Core.List.{List}
 use Prim.Native.Nat.{ℕ, _+_, _-_, _*_, _/_, _≤_, _<_}
@@ -11,11 +11,13 @@ use lib.Seq.{getD-set-same, getD-set-other}
 use borrow.Author.Tests.{eq-eqb, ne-eqb, eqb-true}
 use Rattle.rules.specs.Tests.{_&_, onlyIf}
 use Rattle.rules.specs.Limits.{none}
-use Rattle.tallies.specs.Sums.{set-cases, onlyIf-true, onlyIf-false, onlyIf-pos, onlyIf-most}
+use Rattle.rules.specs.Lists.{_!_}
 use Rattle.laws.specs.Kept.{sum-term}
-use Rattle.laws.specs.Delta.{sum-change}
+use Rattle.laws.specs.Below.{sum-change}
 use Rattle.laws.specs.Counts.{sum-most}
-use Rattle.tallies.specs.Tally.{_!_, label, cross, held, placed, tally, CountsMatch}
+use Rattle.laws.specs.Numbers.{set-cases}
+use Rattle.tallies.specs.Sums.{onlyIf-true, onlyIf-false, onlyIf-pos, onlyIf-most}
+use Rattle.tallies.specs.Tally.{label, cross, held, placed, tally, CountsMatch}
 
 -- ---- crossing, by cases
 
@@ -54,7 +56,8 @@ module _ (leaders : List ℕ) (L i t : ℕ) where
 
 module _ (n : ℕ) (links holds leaders : List ℕ) where
   -- the holds of p become h
-  pub hold-moves : (p h L : ℕ) → p < n → p < length holds → tally n links (set holds p h) leaders L + held holds leaders L p ≡ tally n links holds leaders L + onlyIf (eqb (label leaders p) L) h
+  pub hold-moves : (p h L : ℕ) → p < n → p < length holds → tally n links (set holds p h) leaders L + held holds leaders L p ≡ tally n links holds leaders L + onlyIf
+      (eqb (label leaders p) L) h
   unfolding tally held
   hold-moves p h L lt len =
       omega (
@@ -96,7 +99,8 @@ tally-most n links holds leaders L m h =
 
 -- one entry is changed, and the tally with it
 pub matched : (n : ℕ) (links holds leaders counts links′ holds′ : List ℕ) (M x : ℕ) → length counts ≡ n → CountsMatch n links holds leaders counts → M < n
-    → x ≡ tally n links′ holds′ leaders M → ((L : ℕ) → L < n → (L ≡ M → ⊥) → tally n links′ holds′ leaders L ≡ tally n links holds leaders L) → CountsMatch n links′ holds′ leaders (set counts M x)
+    → x ≡ tally n links′ holds′ leaders M → ((L : ℕ) → L < n → (L ≡ M → ⊥) → tally n links′ holds′ leaders L ≡ tally n links holds leaders L)
+    → CountsMatch n links′ holds′ leaders (set counts M x)
 matched n links holds leaders counts links′ holds′ M x len m lt e o L l =
     ⊎-elim
     (λ w. w .1 ∙ e ∙ ap (tally n links′ holds′ leaders) (sym (w .0)))
@@ -117,16 +121,19 @@ module _ (n : ℕ) (links holds leaders counts : List ℕ) (len : length counts 
       omega (arith, hold-moves n links holds leaders p h L lt l, onlyIf-false _ (holds ! p) f, onlyIf-false _ h f)
 
   -- the holds of p become h: the count of its label follows
-  pub match-hold : (p h x M : ℕ) → p < n → p < length holds → label leaders p ≡ M → M < n → x + holds ! p ≡ counts ! M + h → CountsMatch n links (set holds p h) leaders (set counts M x)
+  pub match-hold : (p h x M : ℕ) → p < n → p < length holds → label leaders p ≡ M → M < n → x + holds ! p ≡ counts ! M + h
+      → CountsMatch n links (set holds p h) leaders (set counts M x)
   match-hold p h x M lt l e lm ex =
       matched n links holds leaders counts links (set holds p h) M x len m lm (omega (arith, hold-at p h M lt l e, m M lm)) (λ L k d. hold-off p h M L lt l e d)
 
   -- a link that crosses no border, or names no label, moves no count
-  pub match-in : (i t : ℕ) → i < 4 * n → i < length links → ((L : ℕ) → L < n → cross leaders L i (links ! i) ≡ cross leaders L i t) → CountsMatch n (set links i t) holds leaders counts
+  pub match-in : (i t : ℕ) → i < 4 * n → i < length links → ((L : ℕ) → L < n → cross leaders L i (links ! i) ≡ cross leaders L i t)
+      → CountsMatch n (set links i t) holds leaders counts
   match-in i t lt l e L k = omega (arith, m L k, link-moves n links holds leaders i t L lt l, e L k)
 
   -- a link that crosses is removed
-  pub match-unlink : (i M : ℕ) → i < 4 * n → i < length links → n ≤ 1024 → label leaders none ≡ none → label leaders (links ! i) ≡ M → M < n → (label leaders (i / 4) ≡ M → ⊥)
+  pub match-unlink : (i M : ℕ) → i < 4 * n → i < length links → n ≤ 1024 → label leaders none ≡ none → label leaders (links ! i) ≡ M → M < n
+      → (label leaders (i / 4) ≡ M → ⊥)
       → (0 < counts ! M) × CountsMatch n (set links i none) holds leaders (set counts M (counts ! M - 1))
   match-unlink i M lt l small nn e lm f =
       let a : cross leaders M i (links ! i) ≡ 1 = cross-on leaders M i (links ! i) e f in
@@ -137,13 +144,3 @@ module _ (n : ℕ) (links holds leaders counts : List ℕ) (len : length counts 
         matched n links holds leaders counts (set links i none) holds M (counts ! M - 1) len m lm (omega (arith, link-moves n links holds leaders i none M lt l))
             (λ L k g. omega (arith, link-moves n links holds leaders i none L lt l, cross-off leaders L i (links ! i) (λ x. g (sym x ∙ e)), cross-off leaders L i none (λ x. omega arith))),
       )
-
-  -- a link that crosses is added, at a place that names no label
-  pub match-link : (i t M : ℕ) → i < 4 * n → i < length links → n ≤ 1024 → label leaders (links ! i) ≡ none → label leaders t ≡ M → M < n → (label leaders (i / 4) ≡ M → ⊥)
-      → CountsMatch n (set links i t) holds leaders (set counts M (counts ! M + 1))
-  match-link i t M lt l small nn e lm f =
-      let a : cross leaders M i t ≡ 1 = cross-on leaders M i t e f in
-      let b : cross leaders M i (links ! i) ≡ 0 = cross-off leaders M i (links ! i) (λ x. omega arith) in
-      let d = m M lm in
-      matched n links holds leaders counts (set links i t) holds M (counts ! M + 1) len m lm (omega (arith, link-moves n links holds leaders i t M lt l))
-      (λ L k g. omega (arith, link-moves n links holds leaders i t L lt l, cross-off leaders L i t (λ x. g (sym x ∙ e)), cross-off leaders L i (links ! i) (λ x. omega arith)))

@@ -1,73 +1,70 @@
 -- Counting up the link places: what one place adds, and the places below a place.
-use mathlib.Core.Path.{_≡_, sym, ap, _∙_, subst}
+use mathlib.Core.Path.{_≡_, sym, _∙_}
 use mathlib.Core.List.{List}
 use Prim.Native.Nat.{ℕ, _+_, _*_, _/_, _≤_, _<_}
 use native.Mathlib.Omega.{arith}
-use lib.ListN.{length, set}
-use Rattle.rules.specs.Limits.{none}
+use lib.ListN.{set, length-set}
+use lib.Seq.{drop-set-lt}
+use Rattle.rules.specs.Lists.{_!_}
 use Rattle.rules.specs.Below.{sum}
 use Rattle.laws.specs.Below.{sum-next}
 use Rattle.laws.specs.Counts.{sum-most}
-use Rattle.tallies.specs.Sums.{getD-any}
-use Rattle.tallies.specs.Tally.{_!_, label, cross, placed}
+use Rattle.tallies.specs.Tally.{label, cross, placed}
 use Rattle.tallies.specs.Moves.{cross-in, cross-off, cross-on, cross-most}
 use Rattle.tallies.specs.Exact.{label-past}
-use Rattle.tallies.specs.Adding.{Labelled, Added, added-none, added-one, added-then, added-same, still}
+use Rattle.tallies.specs.Adding.{Labelled, label-at, LaterSame, later-none, Added, added-none, added-one, added-then, added-same}
 
--- ---- one place: a piece with label own names t
+-- ---- one place
 
-module _ (n : ℕ) (leaders counts : List ℕ) (z : Labelled n leaders counts) (own t i : ℕ) (o : label leaders (i / 4) ≡ own) where
-  pub link-past : n ≤ t → Added n (λ l. cross leaders l i t) counts counts
-  link-past h = added-none n (λ l. cross leaders l i t) counts (λ l u. cross-off leaders l i t (λ e. omega (arith, label-past n leaders t (z .leaders-n) h, z .small)))
+-- a place of a piece with label own that names t is counted
+pub record LinkAdded (n : ℕ) (leaders : List ℕ) (own t : ℕ) (c c′ : List ℕ) : Type 0 where
+  pub at : (i : ℕ) → label leaders (i / 4) ≡ own → Added n (λ l. cross leaders l i t) c c′
+  pub kept : LaterSame n c c′
 
-  label-t : t < n → label leaders t ≡ leaders ! t
-  label-t h = getD-any leaders t none 0 (omega (arith, z .leaders-n))
+module _ {n : ℕ} {leaders counts : List ℕ} {own t : ℕ} (z : Labelled n leaders counts) where
+  -- no piece is named
+  pub link-past : n ≤ t → LinkAdded n leaders own t counts counts
+  link-past h = record {
+    at = λ i o. added-none (λ l u. cross-off leaders l i t (λ e. omega (arith, label-past n leaders t (z .leaders-n) h, z .small)));
+    kept = later-none;
+  }
 
-  pub link-none : t < n → n ≤ leaders ! t → Added n (λ l. cross leaders l i t) counts counts
-  link-none h g = added-none n (λ l. cross leaders l i t) counts (λ l u. cross-off leaders l i t (λ e. omega (arith, label-t h)))
+  -- the piece named has no label
+  pub link-none : t < n → n ≤ leaders ! t → LinkAdded n leaders own t counts counts
+  link-none h g = record { at = λ i o. added-none (λ l u. cross-off leaders l i t (λ e. omega (arith, label-at z t h))); kept = later-none }
 
-  pub link-same : t < n → leaders ! t ≡ own → Added n (λ l. cross leaders l i t) counts counts
-  link-same h e = added-none n (λ l. cross leaders l i t) counts (λ l u. cross-in leaders l i t (label-t h ∙ e ∙ sym o))
+  -- it has the same label
+  pub link-same : t < n → leaders ! t ≡ own → LinkAdded n leaders own t counts counts
+  link-same h e = record { at = λ i o. added-none (λ l u. cross-in leaders l i t (label-at z t h ∙ e ∙ sym o)); kept = later-none }
 
-  pub link-hit : t < n → leaders ! t < n → (leaders ! t ≡ own → ⊥) → Added n (λ l. cross leaders l i t) counts (set counts (leaders ! t) (counts ! (leaders ! t) + 1))
-  link-hit h g d =
-      added-one n (λ l. cross leaders l i t) counts (leaders ! t) 1 g (z .counts-n)
-      (cross-on leaders (leaders ! t) i t (label-t h) (λ e. d (sym e ∙ o)))
-      (λ j u f. cross-off leaders j i t (λ e. f (sym e ∙ label-t h)))
+  -- it has another
+  pub link-hit : {l : ℕ} → t < n → l ≡ leaders ! t → l < n → (l ≡ own → ⊥) → LinkAdded n leaders own t counts (set counts l (counts ! l + 1))
+  link-hit {l} h e g d = record {
+    at = λ i o.
+        added-one l 1 g (z .counts-n) (cross-on leaders l i t (label-at z t h ∙ sym e) (λ x. d (sym x ∙ o)))
+        (λ j u f. cross-off leaders j i t (λ x. f (sym x ∙ label-at z t h ∙ sym e)));
+    kept = record { size = length-set counts l (counts ! l + 1); later = drop-set-lt n counts l (counts ! l + 1) g };
+  }
 
 -- ---- the places below a place
 
 -- the link places below i are added
-abbrev pub LinksAdded : ℕ → List ℕ → List ℕ → List ℕ → ℕ → List ℕ → Type 0
-LinksAdded n links leaders counts₀ i counts = Added n (λ l. sum (placed links leaders l) i) counts₀ counts
+pub record LinksAdded (n : ℕ) (links leaders counts₀ : List ℕ) (i : ℕ) (counts : List ℕ) : Type 0 where
+  pub added : Added n (λ l. sum (placed links leaders l) i) counts₀ counts
 
-module _ (n : ℕ) (links leaders counts₀ : List ℕ) (z : Labelled n leaders counts₀) where
-  pub links-none : LinksAdded n links leaders counts₀ 0 counts₀
-  unfolding sum
-  links-none = added-none n (λ l. sum (placed links leaders l) 0) counts₀ (λ l u. omega arith)
+pub links-none : {n : ℕ} {links leaders counts : List ℕ} → LinksAdded n links leaders counts 0 counts
+unfolding sum
+links-none = record { added = added-none (λ l u. omega arith) }
 
-  module _ (i : ℕ) (counts : List ℕ) (a : LinksAdded n links leaders counts₀ i counts) (k : i < 4 * n) where
-    next : (counts′ : List ℕ) → Added n (λ l. cross leaders l i (links ! i)) counts counts′ → LinksAdded n links leaders counts₀ (i + 1) counts′
-    unfolding placed
-    next counts′ b = added-same (λ l u. omega (arith, sum-next (placed links leaders l) i)) (added-then a b)
+module _ {n : ℕ} {links leaders counts₀ counts : List ℕ} {i : ℕ} (z : Labelled n leaders counts₀) (a : LinksAdded n links leaders counts₀ i counts) (k : i < 4 * n) where
+  -- place i is counted
+  pub links-more : {counts′ : List ℕ} → LinkAdded n leaders (leaders ! (i / 4)) (links ! i) counts counts′ → LinksAdded n links leaders counts₀ (i + 1) counts′
+  unfolding placed
+  links-more b = record {
+    added = added-same (λ l u. omega (arith, sum-next (placed links leaders l) i)) (added-then (a .added) (b .at i (label-at z (i / 4) (omega arith))));
+  }
 
-    owner : label leaders (i / 4) ≡ leaders ! (i / 4)
-    owner = getD-any leaders (i / 4) none 0 (omega (arith, z .leaders-n))
-
-    pub skip-past : n ≤ links ! i → LinksAdded n links leaders counts₀ (i + 1) counts
-    skip-past h = next counts (link-past n leaders counts (still z a) (leaders ! (i / 4)) (links ! i) i owner h)
-
-    pub skip-none : links ! i < n → n ≤ leaders ! (links ! i) → LinksAdded n links leaders counts₀ (i + 1) counts
-    skip-none t h = next counts (link-none n leaders counts (still z a) (leaders ! (i / 4)) (links ! i) i owner t h)
-
-    pub skip-same : links ! i < n → leaders ! (links ! i) ≡ leaders ! (i / 4) → LinksAdded n links leaders counts₀ (i + 1) counts
-    skip-same t h = next counts (link-same n leaders counts (still z a) (leaders ! (i / 4)) (links ! i) i owner t h)
-
-    pub links-hit : (l : ℕ) → links ! i < n → l ≡ leaders ! (links ! i) → l < n → (l ≡ leaders ! (i / 4) → ⊥) → LinksAdded n links leaders counts₀ (i + 1) (set counts l (counts ! l + 1))
-    links-hit l t e h o =
-        subst (λ (y : ℕ). LinksAdded n links leaders counts₀ (i + 1) (set counts y (counts ! y + 1))) (sym e)
-        (next (set counts (leaders ! (links ! i)) (counts ! (leaders ! (links ! i)) + 1)) (link-hit n leaders counts (still z a) (leaders ! (i / 4)) (links ! i) i owner t (subst (λ (y : ℕ). y < n) e h) (λ x. o (e ∙ x))))
-
-    pub links-fit : (l : ℕ) → l < n → counts₀ ! l ≤ 67107840 → counts ! l ≤ 67111936
-    unfolding placed
-    links-fit l h b = omega (arith, a .sums l h, z .small, sum-most (placed links leaders l) 1 i (λ p _. cross-most leaders l p (links ! p)))
+  -- its count has room
+  pub links-fit : {l : ℕ} → l < n → counts₀ ! l ≤ 67107840 → counts ! l ≤ 67111936
+  unfolding placed
+  links-fit {l} h b = omega (arith, a .added .sums l h, z .small, sum-most (placed links leaders l) 1 i (λ p _. cross-most leaders l p (links ! p)))

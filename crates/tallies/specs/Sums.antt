@@ -1,34 +1,16 @@
--- Sums and small tools: what changes where one term changes; a store by cases.
-use mathlib.Core.Path.{_≡_, refl, ap, ap₂, _∙_}
-use mathlib.Core.Logic.{_⊎_, inl, inr, ⊎-elim}
+-- Sums and small tools: what changes where one term changes.
+use mathlib.Core.Path.{_≡_, refl, ap, ap₂}
+use mathlib.Core.Logic.{⊎-elim}
 use mathlib.Core.Bool.{Bool, true, false}
 use mathlib.Core.List.{List, [], _∷_}
 use Prim.Native.Nat.{ℕ, zero, suc, _+_, _≤_, _<_, zero-le}
 use native.Mathlib.Nat.{le-refl, not-suc-le-zero, le-of-suc-le-suc}
-use native.Mathlib.Decide.{ℕ-discrete, decLt}
 use native.Mathlib.Omega.{arith}
-use lib.ListN.{getD, length, set}
-use lib.Seq.{getD-set-same, getD-set-other}
+use lib.ListN.{getD, length}
 use Rattle.rules.specs.Below.{sum}
 use Rattle.rules.specs.Tests.{onlyIf}
 use Rattle.laws.specs.Counts.{sum-most}
-
-pub dec-or : {A : Type 0} → Dec A → A ⊎ (A → ⊥)
-dec-or (yes a) = inl a
-dec-or (no f) = inr f
-
-pub eq-or : (i j : ℕ) → (i ≡ j) ⊎ (i ≡ j → ⊥)
-eq-or i j = dec-or (ℕ-discrete i j)
-
-pub lt-or : (i j : ℕ) → (i < j) ⊎ (j ≤ i)
-lt-or i j = ⊎-elim (λ h. inl h) (λ f. inr (omega (arith, f))) (dec-or (decLt i j))
-
-pub set-cases : (l : List ℕ) (i a j d : ℕ) → i < length l → ((j ≡ i) × (getD (set l i a) j d ≡ a)) ⊎ ((j ≡ i → ⊥) × (getD (set l i a) j d ≡ getD l j d))
-set-cases l i a j d h =
-    ⊎-elim
-    (λ e. inl (e, ap (λ (x : ℕ). getD (set l i a) x d) e ∙ getD-set-same l i a d h))
-    (λ f. inr (f, getD-set-other l i j a d f))
-    (eq-or j i)
+use Rattle.laws.specs.Numbers.{eq-or}
 
 pub getD-any : (l : List ℕ) (i d e : ℕ) → i < length l → getD l i d ≡ getD l i e
 getD-any [] i d e h = absurd (not-suc-le-zero h)

@@ -8,11 +8,7 @@ use lib.ListN.{getD}
 use Rattle.rules.specs.Tests.{_&_, onlyIf}
 use Rattle.rules.specs.Limits.{none}
 use Rattle.rules.specs.Below.{sum}
-
--- entry i of a table
-infixl 90 _!_
-abbrev pub _!_ : List ℕ → ℕ → ℕ
-l ! i = getD l i 0
+use Rattle.rules.specs.Lists.{_!_}
 
 -- the label of p: none past the table's end, so also of none itself
 abbrev pub label : List ℕ → ℕ → ℕ

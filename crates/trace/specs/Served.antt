@@ -1,19 +1,26 @@
 -- The lines of a text are answered and written, as much at a time as out holds.
-use mathlib.Core.Path.{_≡_, subst}
-use mathlib.Core.Bool.{Bool, true, false}
+use mathlib.Core.Path.{subst}
 use mathlib.Core.List.{List, [], _++_}
 use Prim.Native.Nat.{ℕ, _+_, _-_, _≤_, _<_}
 use native.Mathlib.Omega.{arith}
 use lib.ListN.{length, take, drop, drop-of-length-le}
+use Rattle.rules.specs.Limits.{most}
 use Rattle.rules.specs.Tables.{Store}
+use Rattle.rules.specs.Words.{Sized}
+use Rattle.rules.specs.Calls.{Ready}
+use Rattle.lines.specs.Ending.{Closed}
+use Rattle.chunks.specs.Says.{Says, says-none, says-more}
+use Rattle.answers.specs.Wrote.{longest}
 use Rattle.reader.specs.Answered.{Stands}
-use Rattle.reader.specs.Fed.{Feeding, fed-inside, fed-exact}
-use Rattle.carrying.specs.Sofar.{Says, says-none, says-more}
+use Rattle.reader.specs.Fed.{Feeding, Stopped, part-closed, fed-inside, fed-exact, fed-on}
+use Rattle.trace.specs.declared.Lines.{Lines}
+use Rattle.trace.specs.declared.Lines.the-variants.{Written, Unwritten}
 
--- the first `at` bytes of a text are answered by what was written, and the store stands
+-- the first `at` bytes of a text are answered by what was written, and the store stands; s had its lengths too
 pub record Serving (s : Store) (text : List ℕ) (s′ : Store) (l′ w′ : List ℕ) (at from′ : ℕ) : Type 0 where
+  pub sized : Sized s
   pub inside : at ≤ length text
-  pub stands : Stands 1024 s′ l′ w′ from′
+  pub stands : Stands most s′ l′ w′ from′
   pub said : List ℕ
   pub says : Says s text said s′ (drop at text)
 
@@ -22,32 +29,50 @@ pub record Answers (s : Store) (text : List ℕ) (s′ : Store) : Type 0 where
   pub said : List ℕ
   pub says : Says s text said s′ []
 
--- the store stands, and where all was written, it is what 01 gives for the text
-pub record Served (s : Store) (text : List ℕ) (s′ : Store) (l′ w′ : List ℕ) (from′ : ℕ) (wrote : Bool) : Type 0 where
-  pub stands : Stands 1024 s′ l′ w′ from′
-  pub whole : wrote ≡ true → Answers s text s′
+-- where all was written, the store stands and is what the rules give for the text; else it is sound all the same
+abbrev pub Serves : Store → List ℕ → Store → List ℕ → List ℕ → Lines → Type 0
+Serves s text s′ l′ w′ (Written from′) = Stands most s′ l′ w′ from′ × Answers s text s′
+Serves s text s′ l′ w′ Unwritten = Ready s′
+
+pub record Served (s : Store) (text : List ℕ) (s′ : Store) (l′ w′ : List ℕ) (r : Lines) : Type 0 where
+  pub is : Serves s text s′ l′ w′ r
 
 -- ---- laws
 
-pub serving-none : (s : Store) (text l w : List ℕ) (from : ℕ) → Stands 1024 s l w from → Serving s text s l w 0 from
-serving-none s text l w from st = record { inside = omega arith; stands = st; said = []; says = says-none s text }
+pub serving-none : {s : Store} {text l w : List ℕ} {from : ℕ} → Stands most s l w from → Serving s text s l w 0 from
+serving-none st = record { sized = st .ready .sized; inside = omega arith; stands = st; said = []; says = says-none }
 
-pub serving-more : (s : Store) (text : List ℕ) (s₁ : Store) (l₁ w₁ : List ℕ) (at low : ℕ) → Serving s text s₁ l₁ w₁ at low → at < length text
-    → (s′ : Store) (l′ w′ out : List ℕ) (taken written from′ : ℕ) → Feeding 1024 s₁ (take (length text - at) (drop at text)) s′ l′ w′ out taken written from′ → Serving s text s′ l′ w′ (at + taken) from′
-serving-more s text s₁ l₁ w₁ at low v l s′ l′ w′ out taken written from′ f = record {
-  inside = fed-inside text at l 1024 s₁ s′ l′ w′ out taken written from′ f;
-  stands = f .stands;
-  said = v .said ++ take written out;
-  says = says-more (v .says) (record { exact = fed-exact text at l 1024 s₁ s′ l′ w′ out taken written from′ f });
-}
+module _ {s : Store} {text : List ℕ} {s₁ : Store} {l w : List ℕ} {at low : ℕ} (v : Serving s text s₁ l w at low) where
+  -- what is left of the text ends as the text does
+  pub serving-closed : Closed text → Closed (take (length text - at) (drop at text))
+  serving-closed c = part-closed text at c
 
--- all of it is taken
-pub serving-all : (s : Store) (text : List ℕ) (s′ : Store) (l′ w′ : List ℕ) (at from′ : ℕ) → Serving s text s′ l′ w′ at from′ → length text ≤ at → Served s text s′ l′ w′ from′ true
-serving-all s text s′ l′ w′ at from′ v h = record {
-  stands = v .stands;
-  whole = λ _. record { said = v .said; says = subst (λ (t : List ℕ). Says s text (v .said) s′ t) (drop-of-length-le text {i = at} h) (v .says) };
-}
+  module _ (less : at < length text) {s′ : Store} {l′ w′ out : List ℕ} {taken written from′ : ℕ}
+      (f : Feeding most s₁ (take (length text - at) (drop at text)) s′ l′ w′ out taken written from′) where
+    inside : at + taken ≤ length text
+    inside = fed-inside text at less f
 
--- not all was written
-pub serving-stop : (s : Store) (text : List ℕ) (s′ : Store) (l′ w′ : List ℕ) (at from′ : ℕ) → Serving s text s′ l′ w′ at from′ → Served s text s′ l′ w′ from′ false
-serving-stop s text s′ l′ w′ at from′ v = record { stands = v .stands; whole = λ e. absurd (let z : _≡_ {A = ℕ} 0 1 = cc e in omega arith) }
+    -- some of it is taken
+    pub serving-less : longest ≤ length out → Stopped (take (length text - at) (drop at text)) out taken written
+        → length text - (at + taken) < length text - at
+    serving-less room stop = omega (arith, inside, fed-on text at less f room stop)
+
+    -- and answered
+    pub serving-more : Serving s text s′ l′ w′ (at + taken) from′
+    serving-more = record {
+      sized = v .sized;
+      inside = inside;
+      stands = f .stands;
+      said = v .said ++ take written out;
+      says = says-more (v .says) (record { exact = fed-exact text at less f });
+    }
+
+  -- all of it is taken
+  pub serving-all : length text ≤ at → Served s text s₁ l w (Written low)
+  serving-all h = record {
+    is = (v .stands, record { said = v .said; says = subst (Says s text (v .said) s₁) (drop-of-length-le text {i = at} h) (v .says) });
+  }
+
+  -- not all was written
+  pub serving-stop : Served s text s₁ l w Unwritten
+  serving-stop = record { is = v .stands .ready }

@@ -1,20 +1,26 @@
 // Reads a trace of any length from standard input and writes the answers to standard output.
 ghost use Prim.Native.Nat.{_≤_, _<_};
 ghost use lib.ListN.{length, take};
-ghost use Rattle.rules.specs.Calls.{storeOf};
+ghost use Rattle.rules.specs.Tables.{storeOf};
+ghost use Rattle.rules.specs.Limits.{most};
+ghost use Rattle.rules.specs.Calls.{Ready};
 ghost use Rattle.lines.specs.Ending.{Closed};
+ghost use Rattle.answers.specs.Wrote.{longest};
 ghost use Rattle.reader.specs.Answered.{Stands};
-ghost use Rattle.reader.specs.Lines.{NoEnd};
+ghost use Rattle.carrying.specs.Sofar.{Finished};
 ghost use Rattle.trace.specs.Served.{Served};
-ghost use Rattle.trace.specs.Turned.{Behind, Turned};
+ghost use Rattle.trace.specs.Turned.{Behind, Keeps, Turned};
 use libc::STDERR_FILENO;
 use libc::STDIN_FILENO;
 use libc::STDOUT_FILENO;
+use rules::Store;
 
-// A number below which nothing is free, and whether all was written.
-struct Lines {
-    from: usize,
-    wrote: bool,
+// What serving a text comes to.
+enum Lines {
+    // All answers are written; a number below which nothing is free.
+    Written(usize),
+    // Not all could be written.
+    Unwritten,
 }
 
 // Answers the lines of a text whose last byte is 10 and writes the answers, as many at a time as out holds.
@@ -30,16 +36,17 @@ fn serve(
     from: usize,
     out: &mut [u8],
 ) -> Lines
-    requires { ⌜ Stands 1024 (storeOf 1024 (now states) (now links) (now leaders) (now holds) (now counts)) (now list) (now work) from × Closed (now text) × (6208 ≤ length (now out)) ⌝ }
-    ensures { λ r. ⌜ Served (storeOf 1024 (now (states .entry)) (now (links .entry)) (now (leaders .entry)) (now (holds .entry)) (now (counts .entry))) (now (text .entry))
-        (storeOf 1024 (now (states .exit)) (now (links .exit)) (now (leaders .exit)) (now (holds .exit)) (now (counts .exit))) (now (list .exit)) (now (work .exit)) (r .from) (r .wrote) ⌝ }
+    requires { ⌜ Stands most (storeOf most (now states) (now links) (now leaders) (now holds) (now counts)) (now list) (now work) from
+        × Closed (now text) × (longest ≤ length (now out)) ⌝ }
+    ensures { λ r. ⌜ Served (storeOf most (now (states .entry)) (now (links .entry)) (now (leaders .entry)) (now (holds .entry)) (now (counts .entry))) (now (text .entry))
+        (storeOf most (now (states .exit)) (now (links .exit)) (now (leaders .exit)) (now (holds .exit)) (now (counts .exit))) (now (list .exit)) (now (work .exit)) r ⌝ }
 {
     let mut at = 0;
     let mut low = from;
     while at < text.len() {
         let fed = reader::feed(
             &text[at..],
-            1024,
+            Store::MOST,
             states,
             links,
             leaders,
@@ -54,16 +61,10 @@ fn serve(
         at += fed.taken;
         low = fed.from;
         if !io::write_all(STDOUT_FILENO, &out[..written]) {
-            return Lines {
-                from: low,
-                wrote: false,
-            };
+            return Lines::Unwritten;
         }
     }
-    Lines {
-        from: low,
-        wrote: true,
-    }
+    Lines::Written(low)
 }
 
 // Where the bytes to answer end, and whether the input is over.
@@ -95,12 +96,14 @@ fn read_more(buf: &mut [u8], kept: usize) -> Chunk
     }
 }
 
-// How many bytes are kept, a number below which nothing is free, whether there may be more to read, and whether all was read and written.
-struct Next {
-    kept: usize,
-    from: usize,
-    more: bool,
-    done: bool,
+// What comes after a turn.
+enum Next {
+    // The input goes on: how many bytes are kept, and a number below which nothing is free.
+    More { kept: usize, from: usize },
+    // The input is over, and all answers are written.
+    Ended,
+    // Not all could be written.
+    Unwritten,
 }
 
 // Reads more, answers the whole lines and carries the rest to the front.
@@ -117,9 +120,10 @@ fn turn(
     from: usize,
     out: &mut [u8],
 ) -> Next
-    requires { ⌜ Stands 1024 (storeOf 1024 (now states) (now links) (now leaders) (now holds) (now counts)) (now list) (now work) from × (kept ≤ 65) × (kept < length (now buf)) × NoEnd (now buf) 0 kept × (6208 ≤ length (now out)) ⌝ }
-    ensures { λ r. ⌜ Turned (storeOf 1024 (now (states .entry)) (now (links .entry)) (now (leaders .entry)) (now (holds .entry)) (now (counts .entry))) (take kept (now (buf .entry)))
-        (storeOf 1024 (now (states .exit)) (now (links .exit)) (now (leaders .exit)) (now (holds .exit)) (now (counts .exit))) (now (list .exit)) (now (work .exit)) (now (buf .exit)) (r .kept) (r .from) (r .more) (r .done) ⌝ }
+    requires { ⌜ Keeps (storeOf most (now states) (now links) (now leaders) (now holds) (now counts)) (now list) (now work) (now buf) kept from
+        × (kept < length (now buf)) × (longest ≤ length (now out)) ⌝ }
+    ensures { λ r. ⌜ Turned (storeOf most (now (states .entry)) (now (links .entry)) (now (leaders .entry)) (now (holds .entry)) (now (counts .entry))) (take kept (now (buf .entry)))
+        (storeOf most (now (states .exit)) (now (links .exit)) (now (leaders .exit)) (now (holds .exit)) (now (counts .exit))) (now (list .exit)) (now (work .exit)) (now (buf .exit)) r ⌝ }
 {
     let chunk = read_more(buf, kept);
     let end = chunk.end;
@@ -136,29 +140,33 @@ fn turn(
         from,
         out,
     );
-    if !lines.wrote {
-        return Next {
-            kept: 0,
-            from: lines.from,
-            more: false,
-            done: false,
-        };
-    }
+    let Lines::Written(low) = lines else {
+        return Next::Unwritten;
+    };
     if chunk.last {
-        return Next {
-            kept: 0,
-            from: lines.from,
-            more: false,
-            done: true,
-        };
+        return Next::Ended;
     }
     let rest = carrying::carry(buf, whole, end);
-    Next {
+    Next::More {
         kept: rest,
-        from: lines.from,
-        more: true,
-        done: false,
+        from: low,
     }
+}
+
+// Writes the last line of the output, where all that was read is answered.
+fn finish(
+    states: &[u8],
+    links: &[u16],
+    leaders: &[u16],
+    holds: &[u16],
+    counts: &[u32],
+    out: &mut [u8],
+)
+    requires { ⌜ Ready (storeOf most (now states) (now links) (now leaders) (now holds) (now counts))
+        × Finished most (storeOf most (now states) (now links) (now leaders) (now holds) (now counts)) × (64 ≤ length (now out)) ⌝ }
+{
+    let size = reader::close(Store::MOST, states, leaders, out, 0);
+    io::write_all(STDOUT_FILENO, &out[..size]);
 }
 
 // Answers the whole trace.
@@ -174,7 +182,6 @@ fn run() {
     let mut out = [0u8; 65536];
     let mut kept = 0;
     let mut from = 0;
-    let mut done = false;
     let mut turns = u64::MAX;
     while turns > 0 {
         let next = turn(
@@ -190,27 +197,23 @@ fn run() {
             from,
             &mut out,
         );
-        kept = next.kept;
-        from = next.from;
-        done = next.done;
-        if next.more {
-            turns -= 1;
-        } else {
-            turns = 0;
+        match next {
+            Next::More {
+                kept: rest,
+                from: low,
+            } => {
+                kept = rest;
+                from = low;
+                turns -= 1;
+            }
+            Next::Ended => {
+                finish(&states, &links, &leaders, &holds, &counts, &mut out);
+                return;
+            }
+            Next::Unwritten => {
+                return;
+            }
         }
-    }
-    if done {
-        let size = reader::close(
-            1024,
-            &states,
-            &links,
-            &leaders,
-            &holds,
-            &counts,
-            &mut out,
-            0,
-        );
-        io::write_all(STDOUT_FILENO, &out[..size]);
     }
 }
 

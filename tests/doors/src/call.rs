@@ -6,7 +6,7 @@ use independent::calls;
 use independent::tables::Tables;
 use std::io::{self, Read};
 
-/// A call and its numbers, in 01's order.
+/// A call and its numbers, in the rulebook's order.
 #[derive(Clone, Copy, Debug)]
 pub enum Call {
     Start,

@@ -1,4 +1,4 @@
-//! The program that serves the C functions, tests/door/door.c, asked and answered by pipes.
+//! The program that serves the C functions, tests/doors/door.c, asked and answered by pipes.
 
 use compare::program::command;
 use std::collections::VecDeque;

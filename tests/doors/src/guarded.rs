@@ -2,7 +2,7 @@
 
 use std::io::{self, Read};
 
-/// Guard entries on each side, as in tests/door/door.c.
+/// Guard entries on each side, as in tests/doors/door.c.
 const GUARD: usize = 17;
 
 /// An entry of an area, in bytes the lowest first.

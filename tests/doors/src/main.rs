@@ -19,7 +19,7 @@ use judge::Judge;
 use std::process::ExitCode;
 
 const USAGE: &str = "usage: doors --door COMMAND [--rounds R | --fuzz RUNS] [--seed K]
-  COMMAND is the program of tests/build-door, or words that run it, with lines or spaces between.
+  COMMAND is the program of tests/doors/build-door, or words that run it, with lines or spaces between.
   RUNS traces and RUNS tables are changed at random and tried, in place of the rounds.";
 
 /// A kind of tables or traces, by name, and how many times it is tried in one round.

@@ -60,7 +60,7 @@ pub fn junk(random: &mut Random, judge: &mut Judge) -> Result<(), String> {
     judge.each(&tables, &calls)
 }
 
-/// Makes one of the seven areas of another length, in 01's order.
+/// Makes one of the seven areas of another length, in the rulebook's order.
 const RESIZES: [fn(&mut Tables, usize); 7] = [
     |tables, length| tables.states.resize(length, 0),
     |tables, length| tables.links.resize(length, 65_535),

@@ -55,7 +55,7 @@ fn apply(pieces: &mut Pieces, call: Call) -> Result<Accepted, Refusal> {
     }
 }
 
-/// Leaders and counts become what 01 defines for the states, links and holds.
+/// Leaders and counts become what the rules define for the states, links and holds.
 pub fn define(tables: &mut Tables) {
     let pieces = Pieces::of(&tables.lend().0);
     (tables.leaders, tables.counts) = leaders_and_counts(&pieces);

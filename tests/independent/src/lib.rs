@@ -1,4 +1,4 @@
-//! 01 done by brute force.
+//! The rulebook done by brute force.
 //!
 //! Only states, links and holds are believed. Groups, leaders, counts and what
 //! is kept are worked out from their definitions each time they are asked for.

@@ -1,4 +1,4 @@
-//! Reach, group, leader, count and kept, as 01 defines them.
+//! Reach, group, leader, count and kept, as the rulebook defines them.
 
 use crate::tables::{Store, DRAFT, FREE, FROZEN, LINKS, NONE};
 

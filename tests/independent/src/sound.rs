@@ -1,4 +1,4 @@
-//! Soundness, in the words of 01.
+//! Soundness, in the words of the rulebook.
 
 use crate::pieces::Pieces;
 use crate::tables::{Store, DRAFT, FREE, FROZEN, HOLDS, NONE};

@@ -1,4 +1,4 @@
-//! The limits, the refusal numbers and the areas: 01, "Tables and numbers".
+//! The limits, the refusal numbers and the areas: the rulebook's tables.
 
 /// The largest capacity.
 pub const CAPACITY: usize = 1_024;
@@ -16,7 +16,7 @@ pub const FREE: u8 = 0;
 pub const DRAFT: u8 = 1;
 pub const FROZEN: u8 = 2;
 
-/// The refusal numbers, in 01's order.
+/// The refusal numbers, in the rulebook's order.
 #[derive(Clone, Copy, Debug, PartialEq, Eq)]
 pub enum Refusal {
     Size = 1,

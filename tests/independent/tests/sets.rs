@@ -1,4 +1,4 @@
-//! The fourteen small sets of 01 and its worked trace, each by the trace
+//! The fourteen small sets of the rulebook and its worked trace, each by the trace
 //! commands and by the calls over tables.
 
 use independent::calls::{self, Answer};
@@ -7,7 +7,7 @@ use independent::pieces::Pieces;
 use independent::tables::{Tables, NONE};
 use independent::trace::{answer, end};
 
-/// A set of 01: its number, its capacity, and its lines, input left, output right.
+/// A set of the rulebook: its number, its capacity, and its lines, input left, output right.
 /// `998*a 0` is the line `a 0` 998 times.
 struct Set(u8, usize, &'static [(&'static str, &'static str)]);
 
@@ -84,7 +84,7 @@ const SETS: &[Set] = &[
     ]),
 ];
 
-/// The trace of 01 that is given whole.
+/// The trace of the rulebook that is given whole.
 #[rustfmt::skip]
 const WORKED: Set = Set(0, 1024, &[
     NEW_0, NEW_1, NEW_2, ("s 0 0 1", DONE), ("s 1 0 0", DONE), ("s 0 1 2", DONE), ("f 0", DONE),

@@ -1,5 +1,4 @@
 -- `put_bad` writes the line of a bad line, byte after byte. Assumes nothing.
-use mathlib.Core.Path.{_∙_}
 use native.Mathlib.Omega.{arith}
 use Rattle.answers.specs.Writes.{then}
 use Rattle.answers.proofs.put_bad.Statement.{statement}
@@ -12,10 +11,13 @@ put-byte-requires-2 : tie.Need-put-byte-requires-2
 put-byte-requires-2 c κs = omega arith
 
 same-length : tie.Need-same-length
-same-length c = c .before .before .put-byte2 .kept .0 ∙ c .before .before .before .before .before .before .put-byte .kept .0
+same-length c = omega arith
 
 returns : tie.Need-returns
-returns c = (then (c .before .before .before .before .before .before .put-byte .ensures) (c .before .before .put-byte2 .ensures), omega arith)
+returns c =
+    let done : tie.After-put-byte2 = search in
+    let next : tie.After-put-byte = search in
+    (then (next .put-byte .ensures) (done .put-byte2 .ensures), omega arith)
 
 pub put-bad-spec : {M : Type 1} → statement M
 put-bad-spec = tie.close (tie.spec put-byte-requires put-byte-requires-2 same-length returns)

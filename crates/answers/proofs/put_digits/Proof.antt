@@ -1,4 +1,5 @@
--- `put_digits` writes the last k digits of a number. The loop's invariant: writing the digits that are left of what is left of the number gives the same bytes as writing all k of the number at the start. Assumes nothing.
+-- `put_digits` writes the last k digits of a number. The loop's invariant: writing the digits that are left of what is left of the number
+-- gives the same bytes as writing all k of the number at the start. Assumes nothing.
 use mathlib.Core.Path.{_≡_, refl, _∙_}
 use Prim.Native.Nat.{_≤_}
 use native.Mathlib.Omega.{arith}
@@ -39,7 +40,9 @@ loop-less : tie.Need-loop-less Inv-loop μ-loop
 loop-less c = omega arith
 
 loop-again : tie.Need-loop-again Inv-loop μ-loop
-loop-again c = (omega arith, simp length-set (c .before .loop .inv .1), digits-step _ _ (c .before .loop .i) (c .before .loop .left) (c .loop-test .taken) ∙ c .before .loop .inv .2)
+loop-again c =
+    let turn = c .before .loop in
+    (omega arith, simp length-set (turn .inv .1), digits-step _ _ (turn .i) (turn .left) (c .loop-test .taken) ∙ turn .inv .2)
 
 add-result : tie.Need-add-result Inv-loop μ-loop
 add-result c = omega arith
@@ -48,7 +51,9 @@ same-length : tie.Need-same-length Inv-loop μ-loop
 same-length c = c .before .loop .inv .1
 
 returns : tie.Need-returns Inv-loop μ-loop
-returns c = record { place = rw (length-digits (c .before .before .args .k) (c .before .before .args .v)); room = digits-done _ _ _ _ (omega arith) ∙ c .before .loop .inv .2 }
+returns c =
+    let lent : tie.Start Inv-loop μ-loop = search in
+    record { place = rw (length-digits (lent .args .k) (lent .args .v)); room = digits-done _ _ _ _ (omega arith) ∙ c .before .loop .inv .2 }
 
 pub put-digits-spec : {M : Type 1} → statement M
 put-digits-spec =

@@ -1,7 +1,6 @@
 -- `put_done` writes the line of an accepted command, part after part. Assumes nothing.
 use native.Mathlib.Omega.{arith}
 use borrow.Author.Needs.{needs}
-use denote.Ref.{now}
 use Rattle.answers.specs.Writes.{then, done-line, none-line}
 use Rattle.answers.proofs.put_done.Statement.{statement}
 use Rattle.answers.proofs.put_done.Tie as tie
@@ -13,7 +12,11 @@ same-length : tie.Need-same-length
 same-length c = search needs
 
 returns : tie.Need-returns
-returns c = (rw (none-line (now (c .before .before .before .before .before .before .before .before .args .list)) (c .before .before .before .before .before .before .before .before .args .value) (c .before .before .before .before .before .before .before .before .args .freed) (c .before .before .before .before .before .if1 .taken) (c .before .before .before .before .if2 .taken)) (c .before .before .put-none .ensures .0), omega (arith, c .before .before .put-none .ensures .1))
+returns c =
+    let done : tie.After-put-none = search in
+    let none : tie.Then2 = search in
+    let freed : tie.Then1 = search in
+    (rw (none-line _ _ _ (freed .if1 .taken) (none .if2 .taken)) (done .put-none .ensures .0), omega (arith, done .put-none .ensures .1))
 
 put-number-requires : tie.Need-put-number-requires
 put-number-requires c κs = search needs
@@ -37,7 +40,18 @@ same-length-2 : tie.Need-same-length-2
 same-length-2 c = search needs
 
 returns-2 : tie.Need-returns-2
-returns-2 c = (rw (done-line (now (c .before .before .before .before .before .before .before .before .before .before .before .before .before .before .before .before .before .before .before .before .before .before .before .before .before .before .before .args .list)) (c .before .before .before .before .before .before .before .before .before .before .before .before .before .before .before .before .before .before .before .before .before .before .before .before .before .before .before .args .value) (c .before .before .before .before .before .before .before .before .before .before .before .before .before .before .before .before .before .before .before .before .before .before .before .before .before .before .before .args .freed) (c .before .before .before .before .before .before .before .before .before .before .before .before .before .before .before .before .before .before .before .before .before .before .before .before .before .before .before .pre .0)) (then (c .before .before .before .before .before .before .before .before .before .before .before .before .before .before .before .before .before .before .before .before .before .before .put-number .ensures .0) (then (c .before .before .before .before .before .before .before .before .before .before .before .before .before .before .before .before .before .before .put-byte .ensures) (then (c .before .before .before .before .before .before .before .before .before .before .before .before .before .before .put-value .ensures .0) (then (c .before .before .before .before .before .before .before .before .before .before .put-word .ensures .0) (then (c .before .before .before .before .before .before .put-freed .ensures .0) (c .before .before .put-byte2 .ensures)))))), omega arith)
+returns-2 c =
+    let done : tie.After-put-byte2 = search in
+    let at5 : tie.After-put-freed = search in
+    let at4 : tie.After-put-word = search in
+    let at3 : tie.After-put-value = search in
+    let at2 : tie.After-put-byte = search in
+    let at1 : tie.After-put-number = search in
+    let lent : tie.Start = search in (
+      rw (done-line _ _ _ (lent .pre .0)) (then (at1 .put-number .ensures .0) (then (at2 .put-byte .ensures) (then (at3 .put-value .ensures .0)
+          (then (at4 .put-word .ensures .0) (then (at5 .put-freed .ensures .0) (done .put-byte2 .ensures)))))),
+      omega arith,
+    )
 
 pub put-done-spec : {M : Type 1} → statement M
 put-done-spec =

@@ -41,13 +41,18 @@ loop-less : tie.Need-loop-less Inv-loop μ-loop
 loop-less c = omega arith
 
 loop-again : tie.Need-loop-again Inv-loop μ-loop
-loop-again c = (
-  omega arith,
-  c .before .before .put-word .kept .0 ∙ c .before .before .before .before .before .before .loop .inv .1,
-  omega
-      (arith, c .before .before .put-word .ensures .0 .place, decimal-five (getD (now (c .before .before .before .before .before .before .before .before .before .args .list)) (c .before .before .before .before .before .before .loop .i) 0) (omega (arith, c .before .before .before .before .shared-slice-known2 .given (c .before .before .before .before .before .before .loop .i)))),
-  rw (spaced-more (now (c .before .before .before .before .before .before .before .before .before .args .list)) (c .before .before .before .before .before .before .loop .i) (omega arith)) (then (c .before .before .before .before .before .before .loop .inv .3) (c .before .before .put-word .ensures .0)),
-)
+loop-again c =
+    let written : tie.After-put-word Inv-loop μ-loop = search in
+    let read : tie.After-shared-slice-known2 Inv-loop μ-loop = search in
+    let turn : tie.At-loop Inv-loop μ-loop = search in
+    let lent : tie.Start Inv-loop μ-loop = search in
+    let i = turn .loop .i in
+    let small = decimal-five (getD (now (lent .args .list)) i 0) (omega (arith, read .shared-slice-known2 .given i)) in (
+      omega arith,
+      written .put-word .kept .0 ∙ turn .loop .inv .1,
+      omega (arith, written .put-word .ensures .0 .place),
+      rw (spaced-more (now (lent .args .list)) i (omega arith)) (then (turn .loop .inv .3) (written .put-word .ensures .0)),
+    )
 
 same-length : tie.Need-same-length Inv-loop μ-loop
 same-length c = c .before .loop .inv .1

@@ -1,5 +1,4 @@
 -- `put_last` writes the last digit. Assumes nothing.
-use native.Mathlib.Omega.{arith}
 use borrow.Author.Needs.{needs}
 use Rattle.answers.specs.Wrote.{digitsOf}
 use Rattle.answers.proofs.put_last.Statement.{statement}

@@ -6,25 +6,31 @@ enum-known-seen : tie.Need-enum-known-seen
 enum-known-seen c = c .match .keys1
 
 put-piece-requires : tie.Need-put-piece-requires
-put-piece-requires c κs = c .before .before .before .before .before .pre
+put-piece-requires c κs = let lent : tie.Start = search in lent .pre
 
 enum-known-seen-2 : tie.Need-enum-known-seen-2
 enum-known-seen-2 c = c .match .keys2
 
 put-refused-requires : tie.Need-put-refused-requires
-put-refused-requires c κs = c .before .before .before .before .before .pre
+put-refused-requires c κs = let lent : tie.Start = search in lent .pre
 
 same-length : tie.Need-same-length
 same-length c = c .before .before .put-piece .kept .0
 
 returns : tie.Need-returns
-returns c = rw (c .before .before .before .before .before .seen .given .1) (c .before .before .put-piece .ensures)
+returns c =
+    let done : tie.After-put-piece = search in
+    let told : tie.After-seen = search in
+    rw (told .seen .given .1) (done .put-piece .ensures)
 
 same-length-2 : tie.Need-same-length-2
 same-length-2 c = c .before .before .put-refused .kept .0
 
 returns-2 : tie.Need-returns-2
-returns-2 c = rw (c .before .before .before .before .before .seen2 .given .1) (c .before .before .put-refused .ensures)
+returns-2 c =
+    let done : tie.After-put-refused = search in
+    let told : tie.After-seen2 = search in
+    rw (told .seen2 .given .1) (done .put-refused .ensures)
 
 pub put-look-spec : {M : Type 1} → statement M
 put-look-spec =

@@ -24,7 +24,16 @@ same-length : tie.Need-same-length
 same-length c = search needs
 
 returns : tie.Need-returns
-returns c = (rw refused-line (then (c .before .before .before .before .before .before .before .before .before .before .before .before .before .before .before .before .before .before .put-number .ensures .0) (then (c .before .before .before .before .before .before .before .before .before .before .before .before .before .before .put-byte .ensures) (then (c .before .before .before .before .before .before .before .before .before .before .put-value .ensures .0) (then (c .before .before .before .before .before .before .put-word .ensures .0) (c .before .before .put-byte2 .ensures))))), omega arith)
+returns c =
+    let done : tie.After-put-byte2 = search in
+    let at4 : tie.After-put-word = search in
+    let at3 : tie.After-put-value = search in
+    let at2 : tie.After-put-byte = search in
+    let at1 : tie.After-put-number = search in (
+      rw refused-line (then (at1 .put-number .ensures .0) (then (at2 .put-byte .ensures) (then (at3 .put-value .ensures .0)
+          (then (at4 .put-word .ensures .0) (done .put-byte2 .ensures))))),
+      omega arith,
+    )
 
 pub put-none-spec : {M : Type 1} → statement M
 put-none-spec =

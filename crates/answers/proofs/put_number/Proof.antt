@@ -20,46 +20,94 @@ same-length : tie.Need-same-length
 same-length c = search needs
 
 returns : tie.Need-returns
-returns c = (rw (decimal-small _ (c .before .before .before .before .if1 .taken)) (c .before .before .put-byte .ensures), omega (arith, c .before .before .put-byte .ensures .place))
+returns c =
+    let done : tie.After-put-byte = search in
+    let small : tie.Then1 = search in
+    (rw (decimal-small _ (small .if1 .taken)) (done .put-byte .ensures), omega (arith, done .put-byte .ensures .place))
 
 put-last-requires : tie.Need-put-last-requires
 put-last-requires c κs = search needs
 
 put-last-requires-2 : tie.Need-put-last-requires-2
-put-last-requires-2 c κs = omega (arith, c .before .before .before .put-last .ensures .place, length-digits 1 (c .before .before .before .before .before .before .before .before .args .v / 10), c .before .before .before .put-last .kept .0, c .before .before .before .before .before .before .before .before .pre)
+put-last-requires-2 c κs =
+    let at1 : tie.After-put-last = search in
+    let lent : tie.Start = search in
+    omega (arith, at1 .put-last .ensures .place, length-digits 1 (lent .args .v / 10))
 
 same-length-2 : tie.Need-same-length-2
 same-length-2 c = search needs
 
 returns-2 : tie.Need-returns-2
-returns-2 c = (rw (decimal-two (c .before .before .before .before .before .before .before .before .before .before .before .args .v) (omega arith) (omega arith)) (then (c .before .before .before .before .before .before .put-last .ensures) (c .before .before .put-last2 .ensures)), omega (arith, c .before .before .before .before .before .before .put-last .ensures .place, c .before .before .put-last2 .ensures .place, length-digits 1 (c .before .before .before .before .before .before .before .before .before .before .before .args .v / 10), length-digits 1 (c .before .before .before .before .before .before .before .before .before .before .before .args .v)))
+returns-2 c =
+    let done : tie.After-put-last2 = search in
+    let at1 : tie.After-put-last = search in
+    let lent : tie.Start = search in
+    let v = lent .args .v in (
+      rw (decimal-two v (omega arith) (omega arith)) (then (at1 .put-last .ensures) (done .put-last2 .ensures)),
+      omega (arith, at1 .put-last .ensures .place, done .put-last2 .ensures .place, length-digits 1 (v / 10), length-digits 1 v),
+    )
 
 put-last-requires-3 : tie.Need-put-last-requires-3
 put-last-requires-3 c κs = search needs
 
 put-last-requires-4 : tie.Need-put-last-requires-4
-put-last-requires-4 c κs = omega (arith, c .before .before .before .put-last3 .ensures .place, length-digits 1 (c .before .before .before .before .before .before .before .before .before .args .v / 10 / 10), c .before .before .before .put-last3 .kept .0, c .before .before .before .before .before .before .before .before .before .pre)
+put-last-requires-4 c κs =
+    let at1 : tie.After-put-last3 = search in
+    let lent : tie.Start = search in
+    omega (arith, at1 .put-last3 .ensures .place, length-digits 1 (lent .args .v / 10 / 10))
 
 put-last-requires-5 : tie.Need-put-last-requires-5
-put-last-requires-5 c κs = omega (arith, c .before .before .before .before .before .before .before .put-last3 .ensures .place, c .before .before .before .put-last4 .ensures .place, length-digits 1 (c .before .before .before .before .before .before .before .before .before .before .before .before .before .args .v / 10 / 10), length-digits 1 (c .before .before .before .before .before .before .before .before .before .before .before .before .before .args .v / 10), c .before .before .before .before .before .before .before .put-last3 .kept .0, c .before .before .before .put-last4 .kept .0, c .before .before .before .before .before .before .before .before .before .before .before .before .before .pre)
+put-last-requires-5 c κs =
+    let at2 : tie.After-put-last4 = search in
+    let at1 : tie.After-put-last3 = search in
+    let lent : tie.Start = search in
+    let v = lent .args .v in
+    omega
+    (arith, at1 .put-last3 .ensures .place, at2 .put-last4 .ensures .place, length-digits 1 (v / 10 / 10), length-digits 1 (v / 10))
 
 same-length-3 : tie.Need-same-length-3
 same-length-3 c = search needs
 
 returns-3 : tie.Need-returns-3
-returns-3 c = (rw (decimal-three (c .before .before .before .before .before .before .before .before .before .before .before .before .before .before .before .before .args .v) (omega arith) (omega arith)) (then (c .before .before .before .before .before .before .before .before .before .before .put-last3 .ensures) (then (c .before .before .before .before .before .before .put-last4 .ensures) (c .before .before .put-last5 .ensures))), omega (arith, c .before .before .before .before .before .before .before .before .before .before .put-last3 .ensures .place, c .before .before .before .before .before .before .put-last4 .ensures .place, c .before .before .put-last5 .ensures .place, length-digits 1 (c .before .before .before .before .before .before .before .before .before .before .before .before .before .before .before .before .args .v / 10 / 10), length-digits 1 (c .before .before .before .before .before .before .before .before .before .before .before .before .before .before .before .before .args .v / 10), length-digits 1 (c .before .before .before .before .before .before .before .before .before .before .before .before .before .before .before .before .args .v)))
+returns-3 c =
+    let done : tie.After-put-last5 = search in
+    let at2 : tie.After-put-last4 = search in
+    let at1 : tie.After-put-last3 = search in
+    let lent : tie.Start = search in
+    let v = lent .args .v in
+    let written = then (at1 .put-last3 .ensures) (then (at2 .put-last4 .ensures) (done .put-last5 .ensures)) in (
+      rw (decimal-three v (omega arith) (omega arith)) written,
+      omega (
+        arith,
+        at1 .put-last3 .ensures .place,
+        at2 .put-last4 .ensures .place,
+        done .put-last5 .ensures .place,
+        length-digits 1 (v / 10 / 10),
+        length-digits 1 (v / 10),
+        length-digits 1 v,
+      ),
+    )
 
 width-requires : tie.Need-width-requires
 width-requires c κs = search needs
 
 put-digits-requires : tie.Need-put-digits-requires
-put-digits-requires c κs = omega (arith, c .before .width .ensures, decimal-ten (c .before .before .before .before .before .before .args .v))
+put-digits-requires c κs =
+    let lent : tie.Start = search in
+    omega (arith, c .before .width .ensures, decimal-ten (lent .args .v))
 
 same-length-4 : tie.Need-same-length-4
 same-length-4 c = search needs
 
 returns-4 : tie.Need-returns-4
-returns-4 c = (rw (decimal-digits, ← c .before .before .before .before .width .ensures) (c .before .before .put-digits .ensures), omega (arith, c .before .before .put-digits .ensures .place, length-digits (c .before .before .before .before .width .result) (c .before .before .before .before .before .before .before .before .before .args .v), c .before .before .before .before .width .ensures, decimal-ten (c .before .before .before .before .before .before .before .before .before .args .v)))
+returns-4 c =
+    let done : tie.After-put-digits = search in
+    let k : tie.After-width = search in
+    let lent : tie.Start = search in
+    let v = lent .args .v in (
+      rw (decimal-digits, ← k .width .ensures) (done .put-digits .ensures),
+      omega (arith, done .put-digits .ensures .place, length-digits (k .width .result) v, k .width .ensures, decimal-ten v),
+    )
 
 pub put-number-spec : {M : Type 1} → statement M
 put-number-spec =

@@ -1,5 +1,4 @@
 -- `put_piece` writes the line of an accepted look, part after part. Assumes nothing.
-use mathlib.Core.Path.{_∙_}
 use native.Mathlib.Omega.{arith}
 use Rattle.answers.specs.Writes.{then}
 use Rattle.answers.proofs.put_piece.Statement.{statement}
@@ -27,10 +26,21 @@ put-byte-requires-2 : tie.Need-put-byte-requires-2
 put-byte-requires-2 c κs = omega arith
 
 same-length : tie.Need-same-length
-same-length c = c .before .before .put-byte2 .kept .0 ∙ c .before .before .before .before .before .before .put-word3 .kept .0 ∙ c .before .before .before .before .before .before .before .before .before .before .put-word2 .kept .0 ∙ c .before .before .before .before .before .before .before .before .before .before .before .before .before .before .put-value .kept .0 ∙ c .before .before .before .before .before .before .before .before .before .before .before .before .before .before .before .before .before .before .put-byte .kept .0 ∙ c .before .before .before .before .before .before .before .before .before .before .before .before .before .before .before .before .before .before .before .before .before .before .put-word .kept .0 ∙ c .before .before .before .before .before .before .before .before .before .before .before .before .before .before .before .before .before .before .before .before .before .before .before .before .before .before .put-number .kept .0
+same-length c = omega arith
 
 returns : tie.Need-returns
-returns c = (then (c .before .before .before .before .before .before .before .before .before .before .before .before .before .before .before .before .before .before .before .before .before .before .before .before .before .before .put-number .ensures .0) (then (c .before .before .before .before .before .before .before .before .before .before .before .before .before .before .before .before .before .before .before .before .before .before .put-word .ensures .0) (then (c .before .before .before .before .before .before .before .before .before .before .before .before .before .before .before .before .before .before .put-byte .ensures) (then (c .before .before .before .before .before .before .before .before .before .before .before .before .before .before .put-value .ensures .0) (then (c .before .before .before .before .before .before .before .before .before .before .put-word2 .ensures .0) (then (c .before .before .before .before .before .before .put-word3 .ensures .0) (c .before .before .put-byte2 .ensures)))))), omega arith)
+returns c =
+    let done : tie.After-put-byte2 = search in
+    let at6 : tie.After-put-word3 = search in
+    let at5 : tie.After-put-word2 = search in
+    let at4 : tie.After-put-value = search in
+    let at3 : tie.After-put-byte = search in
+    let at2 : tie.After-put-word = search in
+    let at1 : tie.After-put-number = search in (
+      then (at1 .put-number .ensures .0) (then (at2 .put-word .ensures .0) (then (at3 .put-byte .ensures) (then (at4 .put-value .ensures .0)
+          (then (at5 .put-word2 .ensures .0) (then (at6 .put-word3 .ensures .0) (done .put-byte2 .ensures)))))),
+      omega arith,
+    )
 
 pub put-piece-spec : {M : Type 1} → statement M
 put-piece-spec =

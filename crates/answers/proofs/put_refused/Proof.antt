@@ -1,5 +1,4 @@
 -- `put_refused` writes the line of a refused command by its number. Assumes nothing.
-use native.Mathlib.Omega.{arith}
 use borrow.Author.Needs.{needs}
 use Rattle.answers.proofs.put_refused.Statement.{statement}
 use Rattle.answers.proofs.put_refused.Tie as tie
@@ -14,7 +13,10 @@ same-length : tie.Need-same-length
 same-length c = search needs
 
 returns : tie.Need-returns
-returns c = (rw (← c .before .before .before .before .refusal-number .ensures) (c .before .before .put-none .ensures .0), c .before .before .put-none .ensures .1)
+returns c =
+    let done : tie.After-put-none = search in
+    let told : tie.After-refusal-number = search in
+    (rw (← told .refusal-number .ensures) (done .put-none .ensures .0), done .put-none .ensures .1)
 
 pub put-refused-spec : {M : Type 1} → statement M
 put-refused-spec =

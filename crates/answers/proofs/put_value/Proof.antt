@@ -8,19 +8,25 @@ put-byte-requires : tie.Need-put-byte-requires
 put-byte-requires c κs = omega arith
 
 same-length : tie.Need-same-length
-same-length c = c .before .before .put-byte .kept .0
+same-length c = omega arith
 
 returns : tie.Need-returns
-returns c = (rw (value-none _ (c .before .before .before .before .if1 .taken)) (c .before .before .put-byte .ensures), omega (arith, c .before .before .put-byte .ensures .place))
+returns c =
+    let done : tie.After-put-byte = search in
+    let none : tie.Then1 = search in
+    (rw (value-none _ (none .if1 .taken)) (done .put-byte .ensures), omega (arith, done .put-byte .ensures .place))
 
 put-number-requires : tie.Need-put-number-requires
 put-number-requires c κs = omega arith
 
 same-length-2 : tie.Need-same-length-2
-same-length-2 c = c .before .before .put-number .kept .0
+same-length-2 c = omega arith
 
 returns-2 : tie.Need-returns-2
-returns-2 c = (rw (value-number _ (c .before .before .before .before .if1 .left)) (c .before .before .put-number .ensures .0), omega arith)
+returns-2 c =
+    let done : tie.After-put-number = search in
+    let some : tie.Else1 = search in
+    (rw (value-number _ (some .if1 .left)) (done .put-number .ensures .0), omega arith)
 
 pub put-value-spec : {M : Type 1} → statement M
 put-value-spec =

@@ -1,7 +1,7 @@
 -- `areas::fill_u16` writes v over the first k places: the loop keeps `Filled`, the law for every width. Assumes nothing.
+use mathlib.Core.Path.{_≡_}
 use Prim.Native.Nat.{_-_, _≤_}
 use native.Mathlib.Omega.{arith}
-use mathlib.Core.Path.{_≡_}
 use borrow.Author.Needs.{needs}
 use Rattle.areas.proofs.Filled.{Filled, filled-none, filled-more}
 use Rattle.areas.proofs.fill_u16.Statement.{statement}
@@ -14,7 +14,7 @@ abbrev μ-loop : tie.MeasureT-loop
 μ-loop a₀ k v i₀ a i = k - i
 
 loop-holds : tie.Need-loop-holds Inv-loop μ-loop
-loop-holds c = (search needs, filled-none _ _)
+loop-holds c = (search needs, filled-none)
 
 mul-a : tie.Need-mul-a Inv-loop μ-loop
 mul-a c = search needs
@@ -29,13 +29,16 @@ loop-less : tie.Need-loop-less Inv-loop μ-loop
 loop-less c = omega arith
 
 loop-again : tie.Need-loop-again Inv-loop μ-loop
-loop-again c = (search needs, filled-more _ _ _ _ (search needs) (c .before .loop .inv .1))
+loop-again c = (search needs, filled-more (search needs) (c .before .loop .inv .1))
 
 same-length : tie.Need-same-length Inv-loop μ-loop
 same-length c = search needs
 
 returns : tie.Need-returns Inv-loop μ-loop
-returns c = let e : c .before .loop .i ≡ c .before .before .args .k = omega arith in rw (← e) (c .before .loop .inv .1 .is)
+returns c =
+    let loop = c .before .loop in
+    let e : loop .i ≡ c .before .before .args .k = omega arith in
+    rw (← e) (loop .inv .1 .is)
 
 pub fill-u16-spec : {M : Type 1} → statement M
 fill-u16-spec =

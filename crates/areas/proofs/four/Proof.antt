@@ -1,9 +1,9 @@
 -- `areas::four` meets its contract: each link is below 65536, so the word tells the four. Assumes nothing.
+use mathlib.Core.Path.{refl}
 use Prim.Native.Nat.{_+_, _*_}
 use native.Mathlib.Omega.{arith}
-use mathlib.Core.Path.{refl}
-use Rattle.areas.specs.Four.{four-is}
 use borrow.Author.Needs.{needs}
+use Rattle.areas.specs.Four.{four-is}
 use Rattle.areas.proofs.four.Statement.{statement}
 use Rattle.areas.proofs.four.Tie as tie
 
@@ -65,25 +65,43 @@ cast-d : tie.Need-cast-d
 cast-d c = omega (arith, c .shared-slice-known4 .given (4 * c .before .before .before .before .args .p + 3))
 
 mul-result : tie.Need-mul-result
-mul-result c = omega (arith, c .before .before .before .shared-slice-known .given (4 * c .before .before .before .before .args .p), c .before .before .shared-slice-known2 .given (4 * c .before .before .before .before .args .p + 1), c .before .shared-slice-known3 .given (4 * c .before .before .before .before .args .p + 2), c .shared-slice-known4 .given (4 * c .before .before .before .before .args .p + 3))
+mul-result c =
+    let p = c .before .before .before .before .args .p in
+    let known = c .shared-slice-known4 .given in
+    omega (arith, known (4 * p), known (4 * p + 1), known (4 * p + 2), known (4 * p + 3))
 
 add-result : tie.Need-add-result
-add-result c = omega (arith, c .before .before .before .shared-slice-known .given (4 * c .before .before .before .before .args .p), c .before .before .shared-slice-known2 .given (4 * c .before .before .before .before .args .p + 1), c .before .shared-slice-known3 .given (4 * c .before .before .before .before .args .p + 2), c .shared-slice-known4 .given (4 * c .before .before .before .before .args .p + 3))
+add-result c =
+    let p = c .before .before .before .before .args .p in
+    let known = c .shared-slice-known4 .given in
+    omega (arith, known (4 * p), known (4 * p + 1), known (4 * p + 2), known (4 * p + 3))
 
 mul-result-2 : tie.Need-mul-result-2
-mul-result-2 c = omega (arith, c .before .before .before .shared-slice-known .given (4 * c .before .before .before .before .args .p), c .before .before .shared-slice-known2 .given (4 * c .before .before .before .before .args .p + 1), c .before .shared-slice-known3 .given (4 * c .before .before .before .before .args .p + 2), c .shared-slice-known4 .given (4 * c .before .before .before .before .args .p + 3))
+mul-result-2 c =
+    let p = c .before .before .before .before .args .p in
+    let known = c .shared-slice-known4 .given in
+    omega (arith, known (4 * p), known (4 * p + 1), known (4 * p + 2), known (4 * p + 3))
 
 add-result-2 : tie.Need-add-result-2
-add-result-2 c = omega (arith, c .before .before .before .shared-slice-known .given (4 * c .before .before .before .before .args .p), c .before .before .shared-slice-known2 .given (4 * c .before .before .before .before .args .p + 1), c .before .shared-slice-known3 .given (4 * c .before .before .before .before .args .p + 2), c .shared-slice-known4 .given (4 * c .before .before .before .before .args .p + 3))
+add-result-2 c =
+    let p = c .before .before .before .before .args .p in
+    let known = c .shared-slice-known4 .given in
+    omega (arith, known (4 * p), known (4 * p + 1), known (4 * p + 2), known (4 * p + 3))
 
 mul-result-3 : tie.Need-mul-result-3
-mul-result-3 c = omega (arith, c .before .before .before .shared-slice-known .given (4 * c .before .before .before .before .args .p), c .before .before .shared-slice-known2 .given (4 * c .before .before .before .before .args .p + 1), c .before .shared-slice-known3 .given (4 * c .before .before .before .before .args .p + 2), c .shared-slice-known4 .given (4 * c .before .before .before .before .args .p + 3))
+mul-result-3 c =
+    let p = c .before .before .before .before .args .p in
+    let known = c .shared-slice-known4 .given in
+    omega (arith, known (4 * p), known (4 * p + 1), known (4 * p + 2), known (4 * p + 3))
 
 add-result-3 : tie.Need-add-result-3
-add-result-3 c = omega (arith, c .before .before .before .shared-slice-known .given (4 * c .before .before .before .before .args .p), c .before .before .shared-slice-known2 .given (4 * c .before .before .before .before .args .p + 1), c .before .shared-slice-known3 .given (4 * c .before .before .before .before .args .p + 2), c .shared-slice-known4 .given (4 * c .before .before .before .before .args .p + 3))
+add-result-3 c =
+    let p = c .before .before .before .before .args .p in
+    let known = c .shared-slice-known4 .given in
+    omega (arith, known (4 * p), known (4 * p + 1), known (4 * p + 2), known (4 * p + 3))
 
 returns : tie.Need-returns
-returns c = four-is (c .before .before .before .before .args .links .now) (c .before .before .before .before .args .p) (λ i. omega (arith, c .before .before .before .shared-slice-known .given i)) _ refl
+returns c = four-is (λ i. omega (arith, c .shared-slice-known4 .given i)) refl
 
 pub four-spec : {M : Type 1} → statement M
 four-spec =

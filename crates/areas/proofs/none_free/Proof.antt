@@ -31,7 +31,9 @@ loop-less : tie.Need-loop-less Inv-loop μ-loop
 loop-less c = omega (arith, c .before .before .before .loop .inv .0, c .before .before .loop-test .taken)
 
 loop-again : tie.Need-loop-again Inv-loop μ-loop
-loop-again c = (omega (arith, c .before .before .before .loop .inv .0, c .before .before .loop-test .taken), block-past (c .before .before .before .before .before .args .states .now) (c .before .before .before .loop .p) 64 (c .before .shows .result) (c .before .before .before .loop .inv .1) (c .before .shows .ensures) (c .if1 .left))
+loop-again c =
+    let loop = c .before .before .before .loop in
+    (omega (arith, loop .inv .0, c .before .before .loop-test .taken), block-past (loop .inv .1) (c .before .shows .ensures) (c .if1 .left))
 
 returns-2 : tie.Need-returns-2 Inv-loop μ-loop
 returns-2 c = c .before .loop .inv

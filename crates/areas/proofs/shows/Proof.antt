@@ -1,8 +1,8 @@
 -- `areas::shows` meets its contract. The loop's invariant: if a piece passed has the state, the answer so far is true. Assumes nothing.
-use native.Mathlib.Omega.{arith}
-use Prim.Native.Nat.{_+_, _-_, _≤_}
 use mathlib.Core.Logic.{⊎-elim}
-use Rattle.areas.specs.Blocks.{Shows, shows-on, shows-off}
+use Prim.Native.Nat.{_-_, _≤_}
+use native.Mathlib.Omega.{arith}
+use Rattle.areas.specs.Blocks.{Shows, shows-start, shows-on, shows-off}
 use Rattle.areas.proofs.shows.Statement.{statement}
 use Rattle.areas.proofs.shows.Tie as tie
 
@@ -13,7 +13,7 @@ abbrev μ-loop : tie.MeasureT-loop
 μ-loop states state from some₀ i₀ some i = 64 - i
 
 loop-holds : tie.Need-loop-holds Inv-loop μ-loop
-loop-holds c = (omega arith, λ i l. absurd (omega arith))
+loop-holds c = (omega arith, shows-start)
 
 add-if1 : tie.Need-add-if1 Inv-loop μ-loop
 add-if1 c = omega arith
@@ -28,10 +28,13 @@ loop-less : tie.Need-loop-less Inv-loop μ-loop
 loop-less c = omega arith
 
 loop-again : tie.Need-loop-again Inv-loop μ-loop
-loop-again c = let a = c .before .before .before .before .args in let loop = c .before .before .before .loop in (omega arith, ⊎-elim (λ w. shows-on (a .states .now) (a .state) (a .from) (loop .i + 1) (c .if1 .some) (w .1)) (λ w. shows-off (a .states .now) (a .state) (a .from) (loop .i) (loop .some) (c .if1 .some) (loop .inv .1) (w .1) (w .0 .left)) (c .if1 .came))
+loop-again c = (
+  omega arith,
+  ⊎-elim (λ w. shows-on (w .1)) (λ w. shows-off (c .before .before .before .loop .inv .1) (w .1) (w .0 .left)) (c .if1 .came),
+)
 
 returns : tie.Need-returns Inv-loop μ-loop
-returns c = λ i l. c .before .loop .inv .1 i (omega arith)
+returns c = record { seen = λ i l. c .before .loop .inv .1 .seen i (omega arith) }
 
 pub shows-spec : {M : Type 1} → statement M
 shows-spec =

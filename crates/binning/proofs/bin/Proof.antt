@@ -2,69 +2,59 @@
 -- Assumes nothing.
 use native.Mathlib.Omega.{arith}
 use mathlib.Core.Path.{sym, _∙_}
-use Rattle.rules.specs.Calls.{storeOf}
-use Rattle.rules.specs.declared.Command.the-variants.{Bin}
-use Rattle.falling.specs.Steps.{base}
+use borrow.Author.Needs.{needs}
 use Rattle.editing.specs.Names.{bin-names, number-refused, free-refused, state-refused}
 use Rattle.editing.specs.Bin.{bin-linked}
-use borrow.Author.Needs.{needs}
 use Rattle.binning.proofs.bin.Statement.{statement}
 use Rattle.binning.proofs.bin.Tie as tie
 
 returns : tie.Need-returns
-returns c =
-    let a = c .before .before .before .before .before .before .before .args in
-    number-refused (Bin (a .p)) (storeOf (a .n) (a .states .now) (a .links .now) (a .leaders .now) (a .holds .now) (a .counts .now)) (a .p) 2
-    (bin-names (base (a .n) (a .states .now) (a .links .now) (a .holds .now)) (a .p)) (a .list .now) (c .if1 .taken)
+returns c = number-refused bin-names (c .if1 .taken)
 
 slice-read-if2 : tie.Need-slice-read-if2
 slice-read-if2 c = search needs
 
 returns-2 : tie.Need-returns-2
-returns-2 c =
-    let a = c .before .before .before .before .before .before .before .before .before .args in
-    free-refused (Bin (a .p)) (storeOf (a .n) (a .states .now) (a .links .now) (a .leaders .now) (a .holds .now) (a .counts .now)) (a .p) 2
-    (bin-names (base (a .n) (a .states .now) (a .links .now) (a .holds .now)) (a .p)) (c .before .before .if1 .left) (a .list .now) (c .if2 .taken)
+returns-2 c = free-refused bin-names (c .before .before .if1 .left) (c .if2 .taken)
 
 slice-read-if3 : tie.Need-slice-read-if3
 slice-read-if3 c = search needs
 
 returns-3 : tie.Need-returns-3
-returns-3 c =
-    let a = c .before .before .before .before .before .before .before .before .before .before .before .args in
-    let if1 = c .before .before .before .before .if1 in
-    state-refused (Bin (a .p)) (storeOf (a .n) (a .states .now) (a .links .now) (a .leaders .now) (a .holds .now) (a .counts .now)) (a .p) 2
-    (bin-names (base (a .n) (a .states .now) (a .links .now) (a .holds .now)) (a .p)) (if1 .left) (c .before .before .if2 .left) (a .list .now)
-    (c .if3 .taken)
+returns-3 c = state-refused bin-names (c .before .before .before .before .if1 .left) (c .before .before .if2 .left) (c .if3 .taken)
 
 is-linked-requires : tie.Need-is-linked-requires
 is-linked-requires c κs =
-    let given = c .before .before .before .before .before .before .before .before .before .before .before .before .pre in
-    let if1 = c .before .before .before .before .before .if1 in
-    (given .0 .sized .base .links, given .0 .sized .base .most, if1 .left)
+    let below = c .before .before .before .before .before in
+    let begun = below .before .before .before .before .before .before .before in
+    (begun .pre .0 .sized .base .links, begun .pre .0 .sized .base .most, below .if1 .left)
 
 same-length : tie.Need-same-length
 same-length c = search needs
 
 returns-4 : tie.Need-returns-4
 returns-4 c =
-    let a = c .before .before .before .before .before .before .before .before .before .before .before .before .before .before .args in
-    let given = c .before .before .before .before .before .before .before .before .before .before .before .before .before .before .pre in
-    let if1 = c .before .before .before .before .before .before .before .if1 in
-    let if2 = c .before .before .before .before .before .if2 in
-    let if3 = c .before .before .before .if3 in
-    bin-linked (a .n) (a .states .now) (a .links .now) (a .leaders .now) (a .holds .now) (a .counts .now) (a .p) (given .0) (if1 .left) (if2 .left)
-    (if3 .left) (a .list .now) (sym (c .if4 .taken) ∙ c .before .is-linked .ensures)
+    let draft = c .before .before .before in
+    let live = draft .before .before in
+    let below = live .before .before in
+    bin-linked (below .if1 .left) (live .if2 .left) (draft .if3 .left) (sym (c .if4 .taken) ∙ c .before .is-linked .ensures)
 
 bin-draft-requires : tie.Need-bin-draft-requires
 bin-draft-requires c κs =
-    let given = c .before .before .before .before .before .before .before .before .before .before .before .before .before .before .before .before .before .before .before .pre in
-    let if1 = c .before .before .before .before .before .before .before .before .before .before .before .before .if1 in
-    let if2 = c .before .before .before .before .before .before .before .before .before .before .if2 in
-    let if3 = c .before .before .before .before .before .before .before .before .if3 in
-    let if4 = c .before .before .before .before .before .if4 in
-    let linked = c .before .before .before .before .before .before .is-linked in
-    (given .0, given .1, if1 .left, if2 .left, if3 .left, sym (if4 .left) ∙ linked .ensures)
+    let alone = c .before .before .before .before .before in
+    let asked = alone .before in
+    let draft = asked .before .before in
+    let live = draft .before .before in
+    let below = live .before .before in
+    let begun = below .before .before .before .before .before .before .before in
+    record {
+      ready = begun .pre .0;
+      room = begun .pre .1;
+      below = below .if1 .left;
+      live = live .if2 .left;
+      other = draft .if3 .left;
+      alone = sym (alone .if4 .left) ∙ asked .is-linked .ensures;
+    }
 
 cast-freed : tie.Need-cast-freed
 cast-freed c = omega (arith, c .before .before .before .before .before .before .before .before .before .before .bin-draft .ensures .few)

@@ -1,11 +1,13 @@
--- `binning::bin_draft` meets its contract. The emptied tables are the edited base; at most the groups that p named fell, and the letting go leaves what 01 says.
+-- `binning::bin_draft` meets its contract. The emptied tables are the edited base; at most the groups that p named fell, and the letting go leaves what the rules say.
 -- Assumes nothing.
 use native.Mathlib.Omega.{arith}
 use Prim.Native.Nat.{_+_, _*_}
 use mathlib.Core.Path.{_∙_}
 use lib.ListN.{length-set}
-use Rattle.editing.specs.Bin.{emptying, bin-tippings, bin-going, bin-done}
 use borrow.Author.Needs.{needs}
+use Rattle.rules.specs.Commands.{withStates, withLinks}
+use Rattle.editing.specs.Bin.{emptying, bin-edited}
+use Rattle.editing.specs.Started.{edited-tippings, edited-going, edited-done}
 use Rattle.binning.proofs.bin_draft.Statement.{statement}
 use Rattle.binning.proofs.bin_draft.Tie as tie
 
@@ -19,7 +21,7 @@ slice-read-a : tie.Need-slice-read-a
 slice-read-a c = search needs
 
 cast-a : tie.Need-cast-a
-cast-a c = let a = c .before .before .before .before .before .before .before .args in omega (arith, c .slice-known6 .given (4 * a .p))
+cast-a c = omega (arith, c .slice-known6 .given (4 * c .before .before .before .before .before .before .before .args .p))
 
 add-b : tie.Need-add-b
 add-b c = search needs
@@ -31,7 +33,7 @@ slice-read-b : tie.Need-slice-read-b
 slice-read-b c = search needs
 
 cast-b : tie.Need-cast-b
-cast-b c = let a = c .before .before .before .before .before .before .before .before .args in omega (arith, c .slice-known7 .given (4 * a .p + 1))
+cast-b c = omega (arith, c .slice-known7 .given (4 * c .before .before .before .before .before .before .before .before .args .p + 1))
 
 add-c : tie.Need-add-c
 add-c c = search needs
@@ -43,7 +45,7 @@ slice-read-c : tie.Need-slice-read-c
 slice-read-c c = search needs
 
 cast-c : tie.Need-cast-c
-cast-c c = let a = c .before .before .before .before .before .before .before .before .before .args in omega (arith, c .slice-known8 .given (4 * a .p + 2))
+cast-c c = omega (arith, c .slice-known8 .given (4 * c .before .before .before .before .before .before .before .before .before .args .p + 2))
 
 add-d : tie.Need-add-d
 add-d c = search needs
@@ -55,75 +57,67 @@ slice-read-d : tie.Need-slice-read-d
 slice-read-d c = search needs
 
 cast-d : tie.Need-cast-d
-cast-d c = let a = c .before .before .before .before .before .before .before .before .before .before .args in omega (arith, c .slice-known9 .given (4 * a .p + 3))
+cast-d c = omega (arith, c .slice-known9 .given (4 * c .before .before .before .before .before .before .before .before .before .before .args .p + 3))
 
 empty-places-requires : tie.Need-empty-places-requires
-empty-places-requires c κs =
-    let given = c .before .before .before .before .before .before .before .before .before .before .before .before .before .pre in
-    let a = c .before .before .before .before .before .before .before .before .before .before .before .before .before .args in
-    emptying (a .n) (a .states .now) (a .links .now) (a .leaders .now) (a .holds .now) (a .counts .now) (a .p) (given .0) (given .2) (given .3)
-    (given .4) (given .5)
+empty-places-requires c κs = emptying (c .before .before .before .before .before .before .before .before .before .before .before .before .before .pre)
 
 slice-write-states : tie.Need-slice-write-states
 slice-write-states c = search needs
 
 fall-four-requires : tie.Need-fall-four-requires
+unfolding withStates withLinks
 fall-four-requires c κs =
-    let given = c .before .before .before .before .before .before .before .before .before .before .before .before .before .before .before .before .before .before .before .before .before .before .pre in
-    let emptied = c .before .before .before .before .before .before .before .before .empty-places in
-    let a = c .before .before .before .before .before .before .before .before .before .before .before .before .before .before .before .before .before .before .before .before .before .before .args in
-    bin-tippings (a .n) (a .states .now) (a .links .now) (a .leaders .now) (a .holds .now) (a .counts .now) (a .p) (given .0) (given .2) (given .3)
-    (given .4) (given .5) (emptied .last .1 .0) (emptied .last .1 .1 .1 .0) (emptied .ensures) (a .list .now) (given .1)
+    let emptied = c .before .before .before .before .before .before .before .before in
+    let begun = emptied .before .before .before .before .before .before .before .before .before .before .before .before .before .before in
+    edited-tippings (bin-edited (begun .pre) (emptied .empty-places .ensures))
 
 let-go-requires : tie.Need-let-go-requires
+unfolding withStates withLinks
 let-go-requires c κs =
-    let given = c .before .before .before .before .before .before .before .before .before .before .before .before .before .before .before .before .before .before .before .before .before .before .before .before .before .before .before .before .before .before .before .before .pre in
-    let fell = c .before .before .before .before .before .before .before .before .before .fall-four in
-    let emptied = c .before .before .before .before .before .before .before .before .before .before .before .before .before .before .before .before .before .before .empty-places in
-    let a = c .before .before .before .before .before .before .before .before .before .before .before .before .before .before .before .before .before .before .before .before .before .before .before .before .before .before .before .before .before .before .before .before .args in
-    bin-going (a .n) (a .states .now) (a .links .now) (a .leaders .now) (a .holds .now) (a .counts .now) (a .p) (given .0) (given .2) (given .3)
-    (given .4) (given .5) (emptied .last .1 .0) (emptied .last .1 .1 .1 .0) (emptied .ensures) (a .list .now) (given .1) (fell .last .1 .0)
-    (fell .last .1 .1 .1 .1 .0) (fell .result) (fell .ensures)
+    let fell = c .before .before .before .before .before .before .before .before .before in
+    let emptied = fell .before .before .before .before .before .before .before .before .before in
+    let begun = emptied .before .before .before .before .before .before .before .before .before .before .before .before .before .before in
+    edited-going (bin-edited (begun .pre) (emptied .empty-places .ensures)) (fell .fall-four .ensures)
 
 same-length : tie.Need-same-length
 same-length c =
-    let a = c .before .before .before .before .before .before .before .before .before .before .before .before .before .before .before .before .before .before .before .before .before .before .before .before .before .before .before .before .before .before .before .before .before .before .before .before .before .before .before .before .before .before .before .args in
-    let freed = c .before .before .before .before .before .before .before .before .before .before .let-go in
-    let fell = c .before .before .before .before .before .before .before .before .before .before .before .before .before .before .before .before .before .before .before .before .fall-four in
-    freed .kept .1 .0 ∙ fell .kept .1 .0 ∙ length-set (a .states .now) (a .p) 0
+    let freed = c .before .before .before .before .before .before .before .before .before .before in
+    let fell = freed .before .before .before .before .before .before .before .before .before .before in
+    freed .let-go .kept .1 .0 ∙ fell .fall-four .kept .1 .0 ∙ simp length-set
 
 same-length-2 : tie.Need-same-length-2
 same-length-2 c =
-    let freed = c .before .before .before .before .before .before .before .before .before .before .let-go in
-    let emptied = c .before .before .before .before .before .before .before .before .before .before .before .before .before .before .before .before .before .before .before .before .before .before .before .before .before .before .before .before .before .empty-places in
-    freed .kept .1 .1 .0 ∙ emptied .kept .1 .0
+    let freed = c .before .before .before .before .before .before .before .before .before .before in
+    let fell = freed .before .before .before .before .before .before .before .before .before .before in
+    let emptied = fell .before .before .before .before .before .before .before .before .before in
+    freed .let-go .kept .1 .1 .0 ∙ emptied .empty-places .kept .1 .0
 
 same-length-3 : tie.Need-same-length-3
 same-length-3 c = c .before .before .before .before .before .before .before .before .before .before .let-go .kept .1 .1 .1 .0
 
 same-length-4 : tie.Need-same-length-4
 same-length-4 c =
-    let freed = c .before .before .before .before .before .before .before .before .before .before .let-go in
-    let emptied = c .before .before .before .before .before .before .before .before .before .before .before .before .before .before .before .before .before .before .before .before .before .before .before .before .before .before .before .before .before .empty-places in
-    freed .kept .1 .1 .1 .1 .0 ∙ emptied .kept .1 .1 .1 .0
+    let freed = c .before .before .before .before .before .before .before .before .before .before in
+    let fell = freed .before .before .before .before .before .before .before .before .before .before in
+    let emptied = fell .before .before .before .before .before .before .before .before .before in
+    freed .let-go .kept .1 .1 .1 .1 .0 ∙ emptied .empty-places .kept .1 .1 .1 .0
 
 same-length-5 : tie.Need-same-length-5
 same-length-5 c =
-    let freed = c .before .before .before .before .before .before .before .before .before .before .let-go in
-    let fell = c .before .before .before .before .before .before .before .before .before .before .before .before .before .before .before .before .before .before .before .before .fall-four in
-    freed .kept .1 .1 .1 .1 .1 .0 ∙ fell .kept .1 .1 .1 .1 .0
+    let freed = c .before .before .before .before .before .before .before .before .before .before in
+    let fell = freed .before .before .before .before .before .before .before .before .before .before in
+    freed .let-go .kept .1 .1 .1 .1 .1 .0 ∙ fell .fall-four .kept .1 .1 .1 .1 .0
 
 returns : tie.Need-returns
+unfolding withStates withLinks
 returns c =
-    let freed = c .before .before .before .before .before .before .before .before .before .before .let-go in
-    let given = c .before .before .before .before .before .before .before .before .before .before .before .before .before .before .before .before .before .before .before .before .before .before .before .before .before .before .before .before .before .before .before .before .before .before .before .before .before .before .before .before .before .before .before .pre in
-    let fell = c .before .before .before .before .before .before .before .before .before .before .before .before .before .before .before .before .before .before .before .before .fall-four in
-    let emptied = c .before .before .before .before .before .before .before .before .before .before .before .before .before .before .before .before .before .before .before .before .before .before .before .before .before .before .before .before .before .empty-places in
-    let a = c .before .before .before .before .before .before .before .before .before .before .before .before .before .before .before .before .before .before .before .before .before .before .before .before .before .before .before .before .before .before .before .before .before .before .before .before .before .before .before .before .before .before .before .args in
-    bin-done (a .n) (a .states .now) (a .links .now) (a .leaders .now) (a .holds .now) (a .counts .now) (a .p) (given .0) (given .2) (given .3)
-    (given .4) (given .5) (emptied .last .1 .0) (emptied .last .1 .1 .1 .0) (emptied .ensures) (a .list .now) (given .1) (fell .last .1 .0)
-    (fell .last .1 .1 .1 .1 .0) (fell .result) (fell .ensures) (fell .kept .1 .1 .1 .1 .0) (freed .last .1 .0) (freed .last .1 .1 .0)
-    (freed .last .1 .1 .1 .0) (freed .last .1 .1 .1 .1 .0) (freed .last .1 .1 .1 .1 .1 .0) (freed .result) (freed .ensures)
+    let freed = c .before .before .before .before .before .before .before .before .before .before in
+    let fell = freed .before .before .before .before .before .before .before .before .before .before in
+    let emptied = fell .before .before .before .before .before .before .before .before .before in
+    let begun = emptied .before .before .before .before .before .before .before .before .before .before .before .before .before .before in
+    edited-done (bin-edited (begun .pre) (emptied .empty-places .ensures)) (fell .fall-four .ensures) (fell .fall-four .kept .1 .1 .1 .1 .0)
+    (freed .let-go .ensures)
 
 pub bin-draft-spec : {M : Type 1} → statement M
 bin-draft-spec =

@@ -31,19 +31,17 @@ naming-requires-2 c κs = search needs
 
 returns : tie.Need-returns
 returns c =
-    let a = c .before .before .before .before .before .args in
-    let given = c .before .before .before .before .before .pre in
-    let all = c .before .before .before .naming in
-    let own = c .before .naming2 in
-    more-than-own (a .n) (a .links .now) (a .p) (given .0) (given .2) (all .result) (own .result) (all .ensures) (own .ensures) (c .if1 .taken)
+    let own = c .before in
+    let all = own .before .before in
+    let begun = all .before .before in
+    more-than-own _ (begun .pre .0) (begun .pre .2) (all .naming .ensures) (own .naming2 .ensures) (c .if1 .taken)
 
 returns-2 : tie.Need-returns-2
 returns-2 c =
-    let a = c .before .before .before .before .before .args in
-    let given = c .before .before .before .before .before .pre in
-    let all = c .before .before .before .naming in
-    let own = c .before .naming2 in
-    no-more-than-own (a .n) (a .links .now) (a .p) (given .0) (given .2) (all .result) (own .result) (all .ensures) (own .ensures) (c .if1 .left)
+    let own = c .before in
+    let all = own .before .before in
+    let begun = all .before .before in
+    no-more-than-own _ (begun .pre .0) (begun .pre .2) (all .naming .ensures) (own .naming2 .ensures) (c .if1 .left)
 
 pub is-linked-spec : {M : Type 1} → statement M
 is-linked-spec =

@@ -15,7 +15,7 @@ abbrev μ-loop : tie.MeasureT-loop
 μ-loop links p count₀ i₀ count i = length links - i
 
 loop-holds : tie.Need-loop-holds Inv-loop μ-loop
-loop-holds c = (omega arith, omega arith, namings-none (c .args .links .now) (c .args .p))
+loop-holds c = (omega arith, omega arith, namings-none _ _)
 
 mul-if1 : tie.Need-mul-if1 Inv-loop μ-loop
 mul-if1 c = omega (arith, c .before .before .pre, c .before .loop .inv .0, c .before .loop .inv .1)
@@ -43,20 +43,20 @@ loop-less c =
 
 loop-again : tie.Need-loop-again Inv-loop μ-loop
 loop-again c =
-    let a = c .before .before .before .before .args in
-    let l = c .before .before .before .loop in
-    let if1 = c .if1 in (
+    let here = c .before .before .before in
+    let begun = here .before in
+    let loop = here .loop in
+    let links = begun .args .links .now in
+    let Next : ℕ → Type 0 = λ x. x ≡ namings links (begun .args .p) (loop .i + 1) in (
       omega arith,
-      ⊎-elim (λ w. omega (arith, w .1)) (λ w. omega (arith, w .1)) (if1 .came),
+      ⊎-elim (λ w. omega (arith, w .1)) (λ w. omega (arith, w .1)) (c .if1 .came),
       ⊎-elim
-          (λ w. subst (λ (x : ℕ). x ≡ namings (a .links .now) (a .p) (l .i + 1)) (sym (w .1))
-          (namings-hit (a .links .now) (a .p) (l .i) (l .count) (l .inv .2) (w .0 .taken)))
-          (λ w. subst (λ (x : ℕ). x ≡ namings (a .links .now) (a .p) (l .i + 1)) (sym (w .1))
-          (namings-miss (a .links .now) (a .p) (l .i) (l .count) (l .inv .2) (w .0 .left))) (if1 .came),
+          (λ w. subst Next (sym (w .1)) (namings-hit links (loop .i) (loop .inv .2) (w .0 .taken)))
+          (λ w. subst Next (sym (w .1)) (namings-miss links (loop .i) (loop .inv .2) (w .0 .left))) (c .if1 .came),
     )
 
 returns : tie.Need-returns Inv-loop μ-loop
-returns c = let a = c .before .before .args in c .before .loop .inv .2 ∙ ap (namings (a .links .now) (a .p)) (omega arith)
+returns c = c .before .loop .inv .2 ∙ ap (namings _ _) (omega arith)
 
 pub naming-spec : {M : Type 1} → statement M
 naming-spec =

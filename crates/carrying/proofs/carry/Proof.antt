@@ -1,15 +1,15 @@
 -- `carrying::carry` moves the rest to the front: the bytes below i are moved and those behind stand as before. Assumes nothing.
 use Prim.Native.Nat.{_-_, _≤_, min}
-use mathlib.Core.Path.{_≡_, subst}
+use mathlib.Core.Path.{_≡_}
 use mathlib.Core.Logic.{⊎-elim}
 use native.Mathlib.Omega.{arith}
+use Rattle.chunks.specs.Short.{enough}
 use Rattle.carrying.specs.Carried.{Moved, moved-none, moved-more, carried}
 use Rattle.carrying.proofs.carry.Statement.{statement}
 use Rattle.carrying.proofs.carry.Tie as tie
 
 abbrev Inv-loop : tie.InvT-loop
-Inv-loop buf₀ from to size i₀ buf i =
-    Moved buf₀ from buf i × (i ≤ size) × (size ≡ min 65 (to - from))
+Inv-loop buf₀ from to size i₀ buf i = Moved buf₀ from buf i × (i ≤ size) × (size ≡ min enough (to - from))
 
 abbrev μ-loop : tie.MeasureT-loop
 μ-loop buf₀ from to size i₀ buf i = size - i
@@ -18,7 +18,7 @@ sub-size : tie.Need-sub-size Inv-loop μ-loop
 sub-size c = omega arith
 
 loop-holds : tie.Need-loop-holds Inv-loop μ-loop
-loop-holds c = (moved-none (c .before .args .buf .now) (c .before .args .from), omega arith, ⊎-elim (λ w. omega arith) (λ w. omega arith) (c .if1 .came))
+loop-holds c = (moved-none, omega arith, ⊎-elim (λ w. omega arith) (λ w. omega arith) (c .if1 .came))
 
 add-buf : tie.Need-add-buf Inv-loop μ-loop
 add-buf c = omega arith
@@ -36,21 +36,18 @@ loop-less : tie.Need-loop-less Inv-loop μ-loop
 loop-less c = omega arith
 
 loop-again : tie.Need-loop-again Inv-loop μ-loop
-loop-again c = (
-  moved-more (c .before .before .before .before .args .buf .now) (c .before .before .before .before .args .from) (c .before .before .loop .buf) (c .before .before .loop .i) (c .before .before .loop .inv .0) (omega arith),
-  omega arith,
-  c .before .before .loop .inv .2,
-)
+loop-again c =
+    let moved : tie.At-loop Inv-loop μ-loop = search in
+    (moved-more (moved .loop .inv .0) (omega arith), omega arith, moved .loop .inv .2)
 
 same-length : tie.Need-same-length Inv-loop μ-loop
 same-length c = c .before .loop .inv .0 .size
 
 returns : tie.Need-returns Inv-loop μ-loop
 returns c =
-    let e : c .before .loop .i ≡ c .before .before .if1 .size = omega arith in
-    carried (c .before .before .before .args .buf .now) (c .before .before .before .args .from) (c .before .before .before .args .to) (c .before .loop .buf) (c .before .before .if1 .size)
-    (subst (λ k. Moved (c .before .before .before .args .buf .now) (c .before .before .before .args .from) (c .before .loop .buf) k) e (c .before .loop .inv .0))
-    (c .before .before .before .pre .0) (c .before .before .before .pre .1) (c .before .loop .inv .2)
+    let asked : tie.Start Inv-loop μ-loop = search in
+    let moved : tie.At-loop Inv-loop μ-loop = search in
+    carried (moved .loop .inv .0) (asked .pre .0) (asked .pre .1) (omega arith) (moved .loop .inv .2)
 
 pub carry-spec : {M : Type 1} → statement M
 carry-spec =

@@ -1,9 +1,8 @@
 -- `counts::add_hold` meets its contract: a label below n is counted, another adds nothing. Assumes nothing.
-use Prim.Native.Nat.{_+_}
 use native.Mathlib.Omega.{arith}
-use Rattle.tallies.specs.Tally.{_!_}
-use Rattle.counts.specs.Added.{hold-miss, hold-hit}
 use borrow.Author.Needs.{needs}
+use Rattle.rules.specs.Lists.{_!_}
+use Rattle.counts.specs.Added.{hold-miss, hold-hit}
 use Rattle.counts.proofs.add_hold.Statement.{statement}
 use Rattle.counts.proofs.add_hold.Tie as tie
 
@@ -17,7 +16,7 @@ cast-l : tie.Need-cast-l
 cast-l c = omega (arith, c .shared-slice-known .given (c .before .args .q))
 
 returns : tie.Need-returns
-returns c = hold-miss (c .before .before .args .n) (c .before .before .args .holds .now) (c .before .before .args .leaders .now) (c .before .before .args .counts .now) (c .before .before .pre .0) (c .before .before .args .q) (c .before .before .pre .3) (c .if1 .taken)
+returns c = let given = c .before .before .pre in hold-miss (given .0 .labelled) (given .2) (c .if1 .taken)
 
 mul-counts : tie.Need-mul-counts
 mul-counts c = search needs
@@ -35,7 +34,11 @@ cast-counts : tie.Need-cast-counts
 cast-counts c = omega (arith, c .shared-slice-known2 .given (c .before .before .before .before .args .q))
 
 add-counts : tie.Need-add-counts
-add-counts c = omega (arith, c .shared-slice-known2 .given (c .before .before .before .before .args .q), c .before .before .before .before .pre .2 (c .before .before .before .before .args .leaders .now ! c .before .before .before .before .args .q) (c .before .before .if1 .left))
+add-counts c =
+    let has-label = c .before .before in
+    let start = has-label .before .before in
+    let a = start .args in
+    omega (arith, c .shared-slice-known2 .given (a .q), start .pre .0 .room (a .leaders .now ! a .q) (has-label .if1 .left))
 
 mul-counts-3 : tie.Need-mul-counts-3
 mul-counts-3 c = search needs
@@ -47,7 +50,11 @@ same-length : tie.Need-same-length
 same-length c = search needs
 
 returns-2 : tie.Need-returns-2
-returns-2 c = hold-hit (c .before .before .before .before .args .n) (c .before .before .before .before .args .holds .now) (c .before .before .before .before .args .leaders .now) (c .before .before .before .before .args .counts .now) (c .before .before .before .before .pre .0) (c .before .before .before .before .args .q) (c .before .before .before .before .pre .3) (c .before .before .if1 .left)
+returns-2 c =
+    let has-label = c .before .before in
+    let start = has-label .before .before in
+    let given = start .pre in
+    hold-hit (given .0 .labelled) (given .2) (has-label .if1 .left)
 
 pub add-hold-spec : {M : Type 1} → statement M
 add-hold-spec =

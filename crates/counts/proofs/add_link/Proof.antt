@@ -1,15 +1,14 @@
 -- `counts::add_link` meets its contract: each return is one case of a place that names the target. Assumes nothing.
-use Prim.Native.Nat.{_+_}
+use mathlib.Core.Path.{refl}
 use native.Mathlib.Omega.{arith}
-use Rattle.tallies.specs.Tally.{_!_}
-use Rattle.tallies.specs.Places.{link-past, link-none, link-same, link-hit}
-use Rattle.counts.specs.Added.{same-none, same-set}
 use borrow.Author.Needs.{needs}
+use Rattle.rules.specs.Lists.{_!_}
+use Rattle.tallies.specs.Places.{link-past, link-none, link-same, link-hit}
 use Rattle.counts.proofs.add_link.Statement.{statement}
 use Rattle.counts.proofs.add_link.Tie as tie
 
 returns : tie.Need-returns
-returns c = (λ i o. link-past (c .before .args .n) (c .before .args .leaders .now) (c .before .args .counts .now) (c .before .pre .0) (c .before .args .own) (c .before .args .target) i o (c .if1 .taken), same-none)
+returns c = link-past (c .before .pre .labelled) (c .if1 .taken)
 
 mul-l : tie.Need-mul-l
 mul-l c = search needs
@@ -21,10 +20,13 @@ cast-l : tie.Need-cast-l
 cast-l c = omega (arith, c .shared-slice-known .given (c .before .before .args .target))
 
 returns-2 : tie.Need-returns-2
-returns-2 c = (λ i o. link-none (c .before .before .before .args .n) (c .before .before .before .args .leaders .now) (c .before .before .before .args .counts .now) (c .before .before .before .pre .0) (c .before .before .before .args .own) (c .before .before .before .args .target) i o (c .before .before .if1 .left) (c .if2 .taken), same-none)
+returns-2 c = link-none (c .before .before .before .pre .labelled) (c .before .before .if1 .left) (c .if2 .taken)
 
 returns-3 : tie.Need-returns-3
-returns-3 c = (λ i o. link-same (c .before .before .before .before .args .n) (c .before .before .before .before .args .leaders .now) (c .before .before .before .before .args .counts .now) (c .before .before .before .before .pre .0) (c .before .before .before .before .args .own) (c .before .before .before .before .args .target) i o (c .before .before .before .if1 .left) (c .if3 .taken), same-none)
+returns-3 c =
+    let below = c .before .before .before in
+    let start = below .before in
+    link-same (start .pre .labelled) (below .if1 .left) (c .if3 .taken)
 
 mul-counts : tie.Need-mul-counts
 mul-counts c = search needs
@@ -33,7 +35,11 @@ slice-read-counts : tie.Need-slice-read-counts
 slice-read-counts c = search needs
 
 add-counts : tie.Need-add-counts
-add-counts c = omega (arith, c .before .before .before .before .before .pre .1 (c .before .before .before .before .before .args .leaders .now ! c .before .before .before .before .before .args .target) (c .before .before .if2 .left))
+add-counts c =
+    let has-label = c .before .before in
+    let start = has-label .before .before .before in
+    let a = start .args in
+    omega (arith, start .pre .room (a .leaders .now ! a .target) (has-label .if2 .left))
 
 mul-counts-2 : tie.Need-mul-counts-2
 mul-counts-2 c = search needs
@@ -45,7 +51,11 @@ same-length : tie.Need-same-length
 same-length c = search needs
 
 returns-4 : tie.Need-returns-4
-returns-4 c = (λ i o. link-hit (c .before .before .before .before .before .args .n) (c .before .before .before .before .before .args .leaders .now) (c .before .before .before .before .before .args .counts .now) (c .before .before .before .before .before .pre .0) (c .before .before .before .before .before .args .own) (c .before .before .before .before .before .args .target) i o (c .before .before .before .before .if1 .left) (c .before .before .if2 .left) (c .before .if3 .left), same-set (c .before .before .before .before .before .args .n) (c .before .before .before .before .before .args .counts .now) (c .before .before .before .before .before .args .leaders .now ! c .before .before .before .before .before .args .target) (c .before .before .before .before .before .args .counts .now ! (c .before .before .before .before .before .args .leaders .now ! c .before .before .before .before .before .args .target) + 1) (c .before .before .if2 .left))
+returns-4 c =
+    let has-label = c .before .before in
+    let below = has-label .before .before in
+    let start = below .before in
+    link-hit (start .pre .labelled) (below .if1 .left) refl (has-label .if2 .left) (c .before .if3 .left)
 
 pub add-link-spec : {M : Type 1} → statement M
 add-link-spec =

@@ -1,8 +1,9 @@
 -- `freezing::find` meets its contract: a lone draft is marked by itself, else the search marks. Assumes nothing.
 use native.Mathlib.Omega.{arith}
 use lib.ListN.{length-set}
-use Rattle.freezing.specs.Lone.{found-alone, found-search}
 use borrow.Author.Needs.{needs}
+use Rattle.paths.specs.Search.{finishedMark}
+use Rattle.freezing.specs.Lone.{found-alone, found-search}
 use Rattle.freezing.proofs.find.Statement.{statement}
 use Rattle.freezing.proofs.find.Tie as tie
 
@@ -28,13 +29,19 @@ mul-work-3 : tie.Need-mul-work-3
 mul-work-3 c = search needs
 
 slice-write-work-2 : tie.Need-slice-write-work-2
-slice-write-work-2 c = let s = c .before .before .before .before .before .pre in omega (arith, s .below, s .ready .lent .work-n, length-set (c .before .before .before .before .before .args .work .now) (c .before .before .before .before .before .args .p) 65535)
+slice-write-work-2 c =
+    let start = c .before .before .before .before .before in
+    let a = start .args in
+    let given = start .pre in
+    omega (arith, given .below, given .ready .lent .work-n, length-set (a .work .now) (a .p) finishedMark)
 
 same-length : tie.Need-same-length
 same-length c = search needs
 
 returns : tie.Need-returns
-returns c = let a = c .before .before .before .before .before .args in found-alone (a .n) (a .states .now) (a .links .now) (a .work .now) (a .p) (c .before .before .before .before .before .pre) (c .before .lone .ensures (c .if1 .taken))
+returns c =
+    let start = c .before .before .before .before .before in
+    found-alone (start .pre) (c .before .lone .ensures (c .if1 .taken))
 
 visit-requires : tie.Need-visit-requires
 visit-requires c κs = search needs
@@ -43,7 +50,7 @@ same-length-2 : tie.Need-same-length-2
 same-length-2 c = search needs
 
 returns-2 : tie.Need-returns-2
-returns-2 c = let a = c .before .before .before .before .before .before .before .before .before .args in found-search (a .n) (a .states .now) (a .links .now) (a .work .now) (a .p) (c .before .before .before .before .before .before .before .before .before .pre) (c .before .before .visit .last .1 .1 .1 .1 .0) (c .before .before .visit .ensures)
+returns-2 c = found-search (c .before .before .visit .ensures)
 
 pub find-spec : {M : Type 1} → statement M
 find-spec =

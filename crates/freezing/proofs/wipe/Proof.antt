@@ -1,9 +1,9 @@
 -- `freezing::wipe` meets its contract: the two cases of what is wiped. Assumes nothing.
-use native.Mathlib.Omega.{arith}
 use mathlib.Core.Path.{sym, ap, _∙_}
+use native.Mathlib.Omega.{arith}
 use lib.ListN.{length-set}
-use Rattle.freezing.specs.Lone.{wiped}
 use borrow.Author.Needs.{needs}
+use Rattle.freezing.specs.Lone.{wiped}
 use Rattle.freezing.proofs.wipe.Statement.{statement}
 use Rattle.freezing.proofs.wipe.Tie as tie
 
@@ -23,7 +23,10 @@ mul-work-3 : tie.Need-mul-work-3
 mul-work-3 c = search needs
 
 slice-write-work-2 : tie.Need-slice-write-work-2
-slice-write-work-2 c = omega (arith, c .before .before .pre .0, c .before .before .pre .1, c .before .before .pre .2, length-set (c .before .before .args .work .now) (c .before .before .args .p) 0)
+slice-write-work-2 c =
+    let a = c .before .before .args in
+    let given = c .before .before .pre in
+    omega (arith, given .0, given .1, given .2, length-set (a .work .now) (a .p) 0)
 
 mul-fill-u32 : tie.Need-mul-fill-u32
 mul-fill-u32 c = search needs
@@ -41,7 +44,12 @@ same-length-2 : tie.Need-same-length-2
 same-length-2 c = search needs
 
 returns-2 : tie.Need-returns-2
-returns-2 c = let a = c .before .before .before .before .before .before .args in c .before .before .fill-u32 .ensures ∙ ap (wiped (a .n) (a .work .now) (a .p)) (sym (c .before .before .before .before .if1 .left))
+returns-2 c =
+    let filled = c .before .before in
+    let by-one = filled .before .before in
+    let start = by-one .before .before in
+    let a = start .args in
+    filled .fill-u32 .ensures ∙ ap (wiped (a .n) (a .work .now) (a .p)) (sym (by-one .if1 .left))
 
 pub wipe-spec : {M : Type 1} → statement M
 wipe-spec =

@@ -1,19 +1,11 @@
 -- `groups::finish` meets its contract: it pops the last block, or goes back to the parent. Assumes nothing.
-use mathlib.Core.Path.{refl, sym, _∙_, ap}
-use mathlib.Core.List.{List}
-use Prim.Native.Nat.{ℕ, _+_, _*_}
+use mathlib.Core.Path.{refl, _∙_}
 use native.Mathlib.Omega.{arith}
-use lib.ListN.{set}
-use Rattle.groups.specs.Explore.{stand-lt, size-n, blocks-some, blocks-n}
-use Rattle.groups.specs.Finish.{work-n, pieces, parent-n, piece-ok, one-low, one-closed, step-back, step-pop}
 use borrow.Author.Needs.{needs}
+use Rattle.groups.specs.Explore.{stand-lt, size-n, blocks-some, blocks-n}
+use Rattle.groups.specs.Finish.{pieces, one-closed, resumable, step-back, step-pop, step-one}
 use Rattle.groups.proofs.finish.Statement.{statement}
 use Rattle.groups.proofs.finish.Tie as tie
-use Rattle.groups.proofs.close.Reads as close-reads
-use Rattle.groups.proofs.get.Reads as get-reads
-use Rattle.groups.proofs.lowest.Reads as lowest-reads
-use Rattle.groups.proofs.put.Reads as put-reads
-use Rattle.groups.proofs.resume.Reads as resume-reads
 
 add-put : tie.Need-add-put
 add-put c = search needs
@@ -25,25 +17,42 @@ mul-get : tie.Need-mul-get
 mul-get c = search needs
 
 sub-get : tie.Need-sub-get
-sub-get c = blocks-some (c .before .before .before .before .before .before .before .before .pre .0)
+sub-get c = blocks-some (c .before .before .before .before .before .before .before .before .pre .going)
 
 add-get : tie.Need-add-get
-add-get c = omega (arith, blocks-n (c .before .before .before .before .before .before .before .before .pre .0), c .before .before .before .before .before .before .before .before .pre .0 .lent .most)
+add-get c =
+    let going = c .before .before .before .before .before .before .before .before .pre .going in
+    omega (arith, blocks-n going, going .lent .most)
 
 get-requires : tie.Need-get-requires
-get-requires c κs = omega (arith, blocks-some (c .before .before .before .before .before .before .before .before .pre .0), blocks-n (c .before .before .before .before .before .before .before .before .pre .0), c .before .before .before .put .kept .0, c .before .before .before .before .before .before .before .before .pre .0 .lent .work-n)
+get-requires c κs =
+    let stored = c .before .before .before in
+    let start = stored .before .before .before .before .before in
+    let going = start .pre .going in
+    omega (arith, blocks-some going, blocks-n going, stored .put .kept .0, going .lent .work-n)
 
 mul-get-2 : tie.Need-mul-get-2
 mul-get-2 c = search needs
 
 add-get-2 : tie.Need-add-get-2
-add-get-2 c = omega (arith, stand-lt (c .before .before .before .before .before .before .before .before .before .before .pre .0), size-n (c .before .before .before .before .before .before .before .before .before .before .pre .0), c .before .before .before .before .before .before .before .before .before .before .pre .0 .lent .most)
+add-get-2 c =
+    let going = c .before .before .before .before .before .before .before .before .before .before .pre .going in
+    omega (arith, stand-lt going, size-n going, going .lent .most)
 
 get-requires-2 : tie.Need-get-requires-2
-get-requires-2 c κs = omega (arith, stand-lt (c .before .before .before .before .before .before .before .before .before .before .pre .0), size-n (c .before .before .before .before .before .before .before .before .before .before .pre .0), c .before .before .before .before .before .put .kept .0, c .before .before .before .before .before .before .before .before .before .before .pre .0 .lent .work-n)
+get-requires-2 c κs =
+    let stored = c .before .before .before .before .before in
+    let start = stored .before .before .before .before .before in
+    let going = start .pre .going in
+    omega (arith, stand-lt going, size-n going, stored .put .kept .0, going .lent .work-n)
 
 add-if2 : tie.Need-add-if2
-add-if2 c = omega (arith, stand-lt (c .before .before .before .before .before .before .before .before .before .before .before .before .pre .0), size-n (c .before .before .before .before .before .before .before .before .before .before .before .before .pre .0), c .before .before .before .before .before .before .before .before .before .before .before .before .pre .0 .lent .most)
+add-if2 c =
+    let going = c .before .before .before .before .before .before .before .before .before .before .before .before .pre .going in
+    omega (arith, stand-lt going, size-n going, going .lent .most)
+
+cast-put : tie.Need-cast-put
+cast-put c = search needs
 
 put-requires-2 : tie.Need-put-requires-2
 put-requires-2 c κs = search needs
@@ -58,46 +67,99 @@ put-requires-3 : tie.Need-put-requires-3
 put-requires-3 c κs = search needs
 
 sub-resume : tie.Need-sub-resume
-sub-resume c = blocks-some (c .before .before .before .before .before .before .before .before .before .before .before .before .before .before .before .before .before .before .before .before .before .before .pre .0)
+sub-resume c =
+    let parent-read = c .before .before .before .before .before .before .before .before .before .before .before in
+    blocks-some (parent-read .before .before .before .before .before .before .before .before .before .before .before .pre .going)
 
 resume-requires : tie.Need-resume-requires
-resume-requires c κs = (c .before .before .before .before .before .before .before .before .before .before .before .before .before .before .before .before .before .before .before .before .before .before .pre .0 .lent .most, omega (arith, c .before .before .before .put3 .kept .0, c .before .before .before .before .before .before .before .put2 .kept .0, work-n (c .before .before .before .before .before .before .before .before .before .before .before .before .before .before .before .before .before .before .before .before .before .before .pre .0) (c .before .before .before .before .before .before .before .before .before .before .before .before .before .before .before .before .before .before .before .before .before .before .pre .1) (c .before .before .before .before .before .before .before .before .before .before .before .before .before .before .before .before .before .before .before .before .before .before .pre .2) (c .before .before .before .before .before .before .before .before .before .before .before .before .before .before .before .before .before .put .ensures)), omega (arith, c .before .before .before .before .before .before .before .before .before .before .before .get2 .ensures, parent-n (c .before .before .before .before .before .before .before .before .before .before .before .before .before .before .before .before .before .before .before .before .before .before .pre .0) (c .before .before .before .before .before .before .before .before .before .before .before .before .before .before .before .before .before .before .before .before .before .before .pre .1) (c .before .before .before .before .before .before .before .before .before .before .before .before .before .before .before .before .before .before .before .before .before .before .pre .2) (c .before .before .before .before .before .before .before .before .before .before .before .before .before .before .before .before .before .put .ensures)), piece-ok (c .before .before .before .before .before .before .before .before .before .before .before .before .before .before .before .before .before .before .before .before .before .before .pre .0) (c .before .before .before .before .before .before .before .before .before .before .before .before .before .before .before .before .before .before .before .before .before .before .pre .1) (c .before .before .before .before .before .before .before .before .before .before .before .before .before .before .before .before .before .before .before .before .before .before .pre .2) (c .before .before .before .before .before .before .before .before .before .before .before .before .before .before .before .before .before .put .ensures) (c .before .before .before .before .before .before .before .before .before .before .before .get2 .ensures) (c .before .before .before .put3 .last .0) (one-closed (c .before .before .before .before .before .before .before .before .before .before .before .before .before .before .before .before .before .before .before .before .before .before .pre .0) (c .before .before .before .before .before .before .before .before .before .before .before .before .before .before .before .before .before .before .before .before .before .before .pre .1) (c .before .before .before .before .before .before .before .before .before .before .before .before .before .before .before .before .before .before .before .before .before .before .pre .2) (c .before .before .before .before .before .before .before .before .before .before .before .before .before .before .before .before .before .put .ensures) (c .before .before .before .before .before .before .before .before .before .if2 .taken) (c .before .before .before .put3 .ensures ∙ ap (λ (u : List ℕ). set u (2 * c .before .before .before .before .before .before .before .before .before .before .before .before .before .before .before .before .before .before .before .before .before .before .args .n + c .before .before .before .before .before .before .before .before .before .before .before .before .before .before .before .before .before .before .before .before .before .before .args .a .piece) (c .before .before .before .before .before .before .before .before .before .before .before .before .before .before .before .before .before .before .before .before .before .before .args .a .piece)) (c .before .before .before .before .before .before .before .put2 .ensures)) .stack-same))
+resume-requires c κs =
+    let led = c .before .before .before in
+    let marked = led .before .before .before .before in
+    let alone = marked .before .before in
+    let parent-read = alone .before .before in
+    let stored = parent-read .before .before .before .before .before .before in
+    let start = stored .before .before .before .before .before in
+    let given = start .pre in
+    let place = stored .put .ensures in
+    resumable given place (parent-read .get2 .ensures) (one-closed given place (alone .if2 .taken) (marked .put2 .ensures) (led .put3 .ensures) .stack-same)
+    (led .put3 .kept .0 ∙ marked .put2 .kept .0)
 
 same-length : tie.Need-same-length
 same-length c = search needs
 
 returns : tie.Need-returns
-returns c = step-pop (c .before .before .before .before .before .before .before .before .before .before .before .before .before .before .before .before .before .before .before .before .before .before .before .pre .0) (c .before .before .before .before .before .before .before .before .before .before .before .before .before .before .before .before .before .before .before .before .before .before .before .pre .1) (c .before .before .before .before .before .before .before .before .before .before .before .before .before .before .before .before .before .before .before .before .before .before .before .pre .2) (c .before .before .before .before .before .before .before .before .before .before .before .before .before .before .before .before .before .before .put .ensures) (c .before .before .before .before .before .before .before .before .before .before .before .before .get2 .ensures) (sym (c .before .before .before .before .before .before .before .before .before .before .before .before .before .before .get .ensures) ∙ c .before .before .before .before .before .before .before .before .before .before .before .if1 .taken) (one-low (c .before .before .before .before .before .before .before .before .before .before .before .before .before .before .before .before .before .before .before .before .before .before .before .pre .0) (c .before .before .before .before .before .before .before .before .before .before .before .before .before .before .before .before .before .before .before .before .before .before .before .pre .1) (c .before .before .before .before .before .before .before .before .before .before .before .before .before .before .before .before .before .before .before .before .before .before .before .pre .2) (c .before .before .before .before .before .before .before .before .before .before .before .before .before .before .before .before .before .before .put .ensures) (c .before .before .before .before .before .before .before .before .before .before .if2 .taken)) (c .before .before .before .before .put3 .kept .0 ∙ c .before .before .before .before .before .before .before .before .put2 .kept .0) (one-closed (c .before .before .before .before .before .before .before .before .before .before .before .before .before .before .before .before .before .before .before .before .before .before .before .pre .0) (c .before .before .before .before .before .before .before .before .before .before .before .before .before .before .before .before .before .before .before .before .before .before .before .pre .1) (c .before .before .before .before .before .before .before .before .before .before .before .before .before .before .before .before .before .before .before .before .before .before .before .pre .2) (c .before .before .before .before .before .before .before .before .before .before .before .before .before .before .before .before .before .before .put .ensures) (c .before .before .before .before .before .before .before .before .before .before .if2 .taken) (c .before .before .before .before .put3 .ensures ∙ ap (λ (u : List ℕ). set u (2 * c .before .before .before .before .before .before .before .before .before .before .before .before .before .before .before .before .before .before .before .before .before .before .before .args .n + c .before .before .before .before .before .before .before .before .before .before .before .before .before .before .before .before .before .before .before .before .before .before .before .args .a .piece) (c .before .before .before .before .before .before .before .before .before .before .before .before .before .before .before .before .before .before .before .before .before .before .before .args .a .piece)) (c .before .before .before .before .before .before .before .before .put2 .ensures))) (c .resume .ensures)
+returns c =
+    let led = c .before .before .before .before in
+    let marked = led .before .before .before .before in
+    let alone = marked .before .before in
+    let starts = alone .before in
+    let parent-read = starts .before in
+    let start-read = parent-read .before .before in
+    let stored = start-read .before .before .before .before in
+    let start = stored .before .before .before .before .before in
+    step-one (start .pre) (stored .put .ensures) (parent-read .get2 .ensures) (start-read .get .ensures) (starts .if1 .taken) (alone .if2 .taken)
+    (marked .put2 .ensures) (led .put3 .ensures) (c .resume .ensures)
 
 lowest-requires : tie.Need-lowest-requires
-lowest-requires c κs = pieces (c .before .before .before .before .before .before .before .before .before .before .before .before .before .before .pre .0) (c .before .before .before .before .before .before .before .before .before .before .before .before .before .before .pre .1) (c .before .before .before .before .before .before .before .before .before .before .before .before .before .before .pre .2) (c .before .before .before .before .before .before .before .before .before .put .ensures)
+lowest-requires c κs =
+    let stored = c .before .before .before .before .before .before .before .before .before in
+    let start = stored .before .before .before .before .before in
+    pieces (start .pre) (stored .put .ensures)
 
 close-requires : tie.Need-close-requires
 close-requires c κs =
-    let q = pieces (c .before .before .before .before .before .before .before .before .before .before .before .before .before .before .before .before .pre .0) (c .before .before .before .before .before .before .before .before .before .before .before .before .before .before .before .before .pre .1) (c .before .before .before .before .before .before .before .before .before .before .before .before .before .before .before .before .pre .2) (c .before .before .before .before .before .before .before .before .before .before .before .put .ensures) in
-    let l = c .before .lowest .ensures in
-    (q, omega (arith, l .is, q .piece (l .place) (l .to-size)))
+    let stored = c .before .before .before .before .before .before .before .before .before .before .before in
+    let start = stored .before .before .before .before .before in
+    let on-stack = pieces (start .pre) (stored .put .ensures) in
+    let low = c .before .lowest .ensures in
+    (on-stack, omega (arith, low .is, on-stack .piece (low .place) (low .to-size)))
 
 sub-resume-2 : tie.Need-sub-resume-2
-sub-resume-2 c = blocks-some (c .before .before .before .before .before .before .before .before .before .before .before .before .before .before .before .before .before .before .before .before .pre .0)
+sub-resume-2 c =
+    let parent-read = c .before .before .before .before .before .before .before .before .before in
+    blocks-some (parent-read .before .before .before .before .before .before .before .before .before .before .before .pre .going)
 
 resume-requires-2 : tie.Need-resume-requires-2
-resume-requires-2 c κs = (c .before .before .before .before .before .before .before .before .before .before .before .before .before .before .before .before .before .before .before .before .pre .0 .lent .most, omega (arith, c .before .before .before .close .kept .1 .0, work-n (c .before .before .before .before .before .before .before .before .before .before .before .before .before .before .before .before .before .before .before .before .pre .0) (c .before .before .before .before .before .before .before .before .before .before .before .before .before .before .before .before .before .before .before .before .pre .1) (c .before .before .before .before .before .before .before .before .before .before .before .before .before .before .before .before .before .before .before .before .pre .2) (c .before .before .before .before .before .before .before .before .before .before .before .before .before .before .before .put .ensures)), omega (arith, c .before .before .before .before .before .before .before .before .before .get2 .ensures, parent-n (c .before .before .before .before .before .before .before .before .before .before .before .before .before .before .before .before .before .before .before .before .pre .0) (c .before .before .before .before .before .before .before .before .before .before .before .before .before .before .before .before .before .before .before .before .pre .1) (c .before .before .before .before .before .before .before .before .before .before .before .before .before .before .before .before .before .before .before .before .pre .2) (c .before .before .before .before .before .before .before .before .before .before .before .before .before .before .before .put .ensures)), piece-ok (c .before .before .before .before .before .before .before .before .before .before .before .before .before .before .before .before .before .before .before .before .pre .0) (c .before .before .before .before .before .before .before .before .before .before .before .before .before .before .before .before .before .before .before .before .pre .1) (c .before .before .before .before .before .before .before .before .before .before .before .before .before .before .before .before .before .before .before .before .pre .2) (c .before .before .before .before .before .before .before .before .before .before .before .before .before .before .before .put .ensures) (c .before .before .before .before .before .before .before .before .before .get2 .ensures) (c .before .before .before .close .last .1 .0) (c .before .before .before .close .ensures .stack-same))
+resume-requires-2 c κs =
+    let closed-off = c .before .before .before in
+    let parent-read = closed-off .before .before .before .before .before .before in
+    let stored = parent-read .before .before .before .before .before .before in
+    let start = stored .before .before .before .before .before in
+    resumable (start .pre) (stored .put .ensures) (parent-read .get2 .ensures) (closed-off .close .ensures .stack-same) (closed-off .close .kept .1 .0)
 
 same-length-2 : tie.Need-same-length-2
 same-length-2 c = search needs
 
 returns-2 : tie.Need-returns-2
-returns-2 c = step-pop (c .before .before .before .before .before .before .before .before .before .before .before .before .before .before .before .before .before .before .before .before .before .pre .0) (c .before .before .before .before .before .before .before .before .before .before .before .before .before .before .before .before .before .before .before .before .before .pre .1) (c .before .before .before .before .before .before .before .before .before .before .before .before .before .before .before .before .before .before .before .before .before .pre .2) (c .before .before .before .before .before .before .before .before .before .before .before .before .before .before .before .before .put .ensures) (c .before .before .before .before .before .before .before .before .before .before .get2 .ensures) (sym (c .before .before .before .before .before .before .before .before .before .before .before .before .get .ensures) ∙ c .before .before .before .before .before .before .before .before .before .if1 .taken) (c .before .before .before .before .before .before .lowest .ensures) (c .before .before .before .before .close .kept .1 .0) (c .before .before .before .before .close .ensures) (c .resume2 .ensures)
+returns-2 c =
+    let closed-off = c .before .before .before .before in
+    let lowest-found = closed-off .before .before in
+    let starts = lowest-found .before .before .before in
+    let parent-read = starts .before in
+    let start-read = parent-read .before .before in
+    let stored = start-read .before .before .before .before in
+    let start = stored .before .before .before .before .before in
+    step-pop (start .pre) (stored .put .ensures) (parent-read .get2 .ensures) (start-read .get .ensures) (starts .if1 .taken) (lowest-found .lowest .ensures)
+    (closed-off .close .kept .1 .0) (closed-off .close .ensures) (c .resume2 .ensures)
 
 resume-requires-3 : tie.Need-resume-requires-3
-resume-requires-3 c κs = (c .before .before .before .before .before .before .before .before .before .before .before .before .before .pre .0 .lent .most, omega (arith, work-n (c .before .before .before .before .before .before .before .before .before .before .before .before .before .pre .0) (c .before .before .before .before .before .before .before .before .before .before .before .before .before .pre .1) (c .before .before .before .before .before .before .before .before .before .before .before .before .before .pre .2) (c .before .before .before .before .before .before .before .before .put .ensures)), omega (arith, c .before .before .get2 .ensures, parent-n (c .before .before .before .before .before .before .before .before .before .before .before .before .before .pre .0) (c .before .before .before .before .before .before .before .before .before .before .before .before .before .pre .1) (c .before .before .before .before .before .before .before .before .before .before .before .before .before .pre .2) (c .before .before .before .before .before .before .before .before .put .ensures)), piece-ok (c .before .before .before .before .before .before .before .before .before .before .before .before .before .pre .0) (c .before .before .before .before .before .before .before .before .before .before .before .before .before .pre .1) (c .before .before .before .before .before .before .before .before .before .before .before .before .before .pre .2) (c .before .before .before .before .before .before .before .before .put .ensures) (c .before .before .get2 .ensures) (c .before .before .before .before .before .before .before .before .put .last .0) refl)
+resume-requires-3 c κs =
+    let parent-read = c .before .before in
+    let stored = parent-read .before .before .before .before .before .before in
+    let start = stored .before .before .before .before .before in
+    resumable (start .pre) (stored .put .ensures) (parent-read .get2 .ensures) refl refl
 
 same-length-3 : tie.Need-same-length-3
 same-length-3 c = search needs
 
 returns-3 : tie.Need-returns-3
-returns-3 c = step-back (c .before .before .before .before .before .before .before .before .before .before .before .before .before .before .pre .0) (c .before .before .before .before .before .before .before .before .before .before .before .before .before .before .pre .1) (c .before .before .before .before .before .before .before .before .before .before .before .before .before .before .pre .2) (c .before .before .before .before .before .before .before .before .before .put .ensures) (c .before .before .before .get2 .ensures) (λ e. c .before .before .if1 .left (c .before .before .before .before .before .get .ensures ∙ e)) (c .resume3 .ensures)
+returns-3 c =
+    let starts = c .before .before in
+    let parent-read = starts .before in
+    let start-read = parent-read .before .before in
+    let stored = start-read .before .before .before .before in
+    let start = stored .before .before .before .before .before in
+    step-back (start .pre) (stored .put .ensures) (parent-read .get2 .ensures) (start-read .get .ensures) (starts .if1 .left) (c .resume3 .ensures)
 
 pub finish-spec : {M : Type 1} → statement M
 finish-spec =
@@ -113,6 +175,7 @@ finish-spec =
     add-get-2
     get-requires-2
     add-if2
+    cast-put
     put-requires-2
     mul-put
     add-put-2

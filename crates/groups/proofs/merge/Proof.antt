@@ -1,17 +1,17 @@
 -- `groups::merge` meets its contract: the blocks from `left` on start above the position, and the first does not. Assumes nothing.
 use native.Mathlib.Omega.{arith}
-use Rattle.groups.specs.Loops.{CutLoop, cut-more, cut-done}
+use Rattle.groups.specs.Loops.{Cutting, cut-start, cut-more, cut-done}
 use Rattle.groups.proofs.merge.Statement.{statement}
 use Rattle.groups.proofs.merge.Tie as tie
 
 abbrev Inv-loop : tie.InvT-loop
-Inv-loop n work blocks position left₀ left = CutLoop n work blocks position left
+Inv-loop n work blocks position left₀ left = Cutting n work blocks position left
 
 abbrev μ-loop : tie.MeasureT-loop
 μ-loop n work blocks position left₀ left = left
 
 loop-holds : tie.Need-loop-holds Inv-loop μ-loop
-loop-holds c = (omega arith, omega arith, λ i a b. absurd (omega arith))
+loop-holds c = cut-start (c .before .pre)
 
 mul-get : tie.Need-mul-get Inv-loop μ-loop
 mul-get c = omega arith
@@ -33,15 +33,15 @@ loop-less c = omega arith
 
 loop-again : tie.Need-loop-again Inv-loop μ-loop
 loop-again c =
-    let s = c .before .before .before .before in
-    let l = c .before .before .loop in
-    cut-more (s .args .n) (s .args .work .now) (s .args .blocks) (s .args .position) (l .left) (omega arith) (omega arith) (l .inv) (omega (arith, c .before .get .ensures, c .if1 .taken))
+    let looped = c .before .before in
+    let start = looped .before .before in
+    cut-more (start .pre) (looped .loop .inv) (c .before .get .ensures) (c .if1 .taken)
 
 returns : tie.Need-returns Inv-loop μ-loop
 returns c =
-    let s = c .before .before .before .before in
-    let l = c .before .before .loop in
-    cut-done (s .args .n) (s .args .work .now) (s .args .blocks) (s .args .position) (l .left) (omega arith) (l .inv) (omega (arith, c .before .get .ensures, c .if1 .left))
+    let looped = c .before .before in
+    let start = looped .before .before in
+    cut-done (start .pre) (looped .loop .inv) (c .before .get .ensures) (c .if1 .left)
 
 pub merge-spec : {M : Type 1} → statement M
 merge-spec =

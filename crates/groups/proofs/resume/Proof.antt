@@ -1,8 +1,8 @@
 -- `groups::resume` meets its contract: the piece and its place are as read. Assumes nothing.
 use mathlib.Core.Path.{refl, _∙_, ap}
 use Prim.Native.Nat.{ℕ, _+_}
-use Rattle.paths.specs.Ground.{_!_}
 use borrow.Author.Needs.{needs}
+use Rattle.rules.specs.Lists.{_!_}
 use Rattle.groups.proofs.resume.Statement.{statement}
 use Rattle.groups.proofs.resume.Tie as tie
 
@@ -23,13 +23,14 @@ get-requires-2 c κs = search needs
 
 returns : tie.Need-returns
 returns c =
-    let e = c .before .get .ensures in
+    let a = c .before .before .before .args in
+    let piece = c .before .get .ensures in
     record {
       size-is = refl;
       blocks-is = refl;
       stand-is = refl;
-      piece-is = e;
-      place-is = c .get2 .ensures ∙ ap (λ (x : ℕ). c .before .before .before .args .work .now ! (c .before .before .before .args .n + x)) e;
+      piece-is = piece;
+      place-is = c .get2 .ensures ∙ ap (λ (x : ℕ). a .work .now ! (a .n + x)) piece;
     }
 
 pub resume-spec : {M : Type 1} → statement M

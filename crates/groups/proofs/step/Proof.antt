@@ -1,23 +1,31 @@
 -- `groups::step` meets its contract: a piece is pushed, or the one at which the search stands is finished. Assumes nothing.
 use mathlib.Core.Path.{_∙_}
 use Rattle.groups.specs.Advance.{came-going, came-then, advanced-step}
-use borrow.Author.Needs.{needs}
 use Rattle.groups.proofs.step.Statement.{statement}
 use Rattle.groups.proofs.step.Tie as tie
-use Rattle.groups.proofs.explore.Reads as explore-reads
-use Rattle.groups.proofs.finish.Reads as finish-reads
 
 explore-requires : tie.Need-explore-requires
 explore-requires c κs = c .before .before .before .before .pre .0
 
 finish-requires : tie.Need-finish-requires
-finish-requires c κs = (came-going (c .before .before .before .before .explore .ensures .came) (c .before .before .before .before .before .before .before .before .before .pre .0) (c .before .before .before .before .explore .ensures .live), c .before .before .before .before .before .before .before .before .before .pre .1, c .before .if1 .taken)
+finish-requires c κs =
+    let explored = c .before .before .before .before in
+    let start = explored .before .before .before .before .before in
+    let given = start .pre in
+    let advanced = explored .explore .ensures in
+    record { going = came-going (advanced .came) (given .0) (advanced .live); closed = given .1; four = c .before .if1 .taken }
 
 same-length : tie.Need-same-length
-same-length c = c .before .before .finish .kept .1 .1 .1 .1 .0 ∙ c .before .before .before .before .before .before .before .explore .kept .1 .1 .1 .1 .0
+same-length c =
+    let finished = c .before .before in
+    let explored = finished .before .before .before .before .before in
+    finished .finish .kept .1 .1 .1 .1 .0 ∙ explored .explore .kept .1 .1 .1 .1 .0
 
 returns : tie.Need-returns
-returns c = came-then (c .before .before .before .before .before .before .before .explore .ensures .came) (c .before .before .finish .ensures)
+returns c =
+    let finished = c .before .before in
+    let explored = finished .before .before .before .before .before in
+    came-then (explored .explore .ensures .came) (finished .finish .ensures)
 
 same-length-2 : tie.Need-same-length-2
 same-length-2 c = c .before .before .before .explore .kept .1 .1 .1 .1 .0

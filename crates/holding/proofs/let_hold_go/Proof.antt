@@ -1,12 +1,12 @@
--- `holding::let_hold_go` meets its contract. One hold and one count less match again; at most p's group fell, and the letting go leaves what 01 says.
+-- `holding::let_hold_go` meets its contract. One hold and one count less match again; at most p's group fell, and the letting go leaves what the rules say.
 -- Assumes nothing.
 use native.Mathlib.Omega.{arith}
-use Prim.Native.Nat.{_-_}
 use mathlib.Core.Path.{_∙_}
 use lib.ListN.{length-set}
 use borrow.Author.Needs.{needs}
-use Rattle.tallies.specs.Tally.{_!_}
-use Rattle.editing.specs.Holds.{l-n, l-counted, release-tipping, release-going, released}
+use Rattle.rules.specs.Commands.{withHolds}
+use Rattle.editing.specs.Holds.{released-in, release-edited}
+use Rattle.editing.specs.Started.{tippings-first, tumbled-one, edited-tippings, edited-going, edited-done}
 use Rattle.holding.proofs.let_hold_go.Statement.{statement}
 use Rattle.holding.proofs.let_hold_go.Tie as tie
 
@@ -35,95 +35,38 @@ slice-write-holds : tie.Need-slice-write-holds
 slice-write-holds c = search needs
 
 mul-counts : tie.Need-mul-counts
-mul-counts c =
-    let given = c .before .before .before .before .before .before .before .before .pre in
-    let a = c .before .before .before .before .before .before .before .before .args in
-    omega (
-      arith,
-      l-n (a .n) (a .states .now) (a .links .now) (a .leaders .now) (a .holds .now) (a .counts .now) (a .p) (given .0) (given .2)
-          (given .3) (given .4),
-      l-counted (a .n) (a .states .now) (a .links .now) (a .leaders .now) (a .holds .now) (a .counts .now) (a .p) (given .0)
-          (given .2) (given .3) (given .4) (given .5),
-      given .0 .sized .base .most,
-      given .0 .sized .counts,
-    )
+mul-counts c = omega (arith, released-in (c .before .before .before .before .before .before .before .before .pre))
 
 slice-read-counts : tie.Need-slice-read-counts
-slice-read-counts c =
-    let given = c .before .before .before .before .before .before .before .before .before .pre in
-    let a = c .before .before .before .before .before .before .before .before .before .args in
-    omega (
-      arith,
-      l-n (a .n) (a .states .now) (a .links .now) (a .leaders .now) (a .holds .now) (a .counts .now) (a .p) (given .0) (given .2)
-          (given .3) (given .4),
-      l-counted (a .n) (a .states .now) (a .links .now) (a .leaders .now) (a .holds .now) (a .counts .now) (a .p) (given .0)
-          (given .2) (given .3) (given .4) (given .5),
-      given .0 .sized .base .most,
-      given .0 .sized .counts,
-    )
+slice-read-counts c = omega (arith, released-in (c .before .before .before .before .before .before .before .before .before .pre))
 
 sub-counts : tie.Need-sub-counts
-sub-counts c =
-    let given = c .before .before .before .before .before .before .before .before .before .pre in
-    let a = c .before .before .before .before .before .before .before .before .before .args in
-    omega (
-      arith,
-      l-n (a .n) (a .states .now) (a .links .now) (a .leaders .now) (a .holds .now) (a .counts .now) (a .p) (given .0) (given .2)
-          (given .3) (given .4),
-      l-counted (a .n) (a .states .now) (a .links .now) (a .leaders .now) (a .holds .now) (a .counts .now) (a .p) (given .0)
-          (given .2) (given .3) (given .4) (given .5),
-      given .0 .sized .base .most,
-      given .0 .sized .counts,
-    )
+sub-counts c = omega (arith, released-in (c .before .before .before .before .before .before .before .before .before .pre))
 
 mul-counts-2 : tie.Need-mul-counts-2
-mul-counts-2 c =
-    let given = c .before .before .before .before .before .before .before .before .before .pre in
-    let a = c .before .before .before .before .before .before .before .before .before .args in
-    omega (
-      arith,
-      l-n (a .n) (a .states .now) (a .links .now) (a .leaders .now) (a .holds .now) (a .counts .now) (a .p) (given .0) (given .2)
-          (given .3) (given .4),
-      l-counted (a .n) (a .states .now) (a .links .now) (a .leaders .now) (a .holds .now) (a .counts .now) (a .p) (given .0)
-          (given .2) (given .3) (given .4) (given .5),
-      given .0 .sized .base .most,
-      given .0 .sized .counts,
-    )
+mul-counts-2 c = omega (arith, released-in (c .before .before .before .before .before .before .before .before .before .pre))
 
 slice-write-counts : tie.Need-slice-write-counts
-slice-write-counts c =
-    let given = c .before .before .before .before .before .before .before .before .before .pre in
-    let a = c .before .before .before .before .before .before .before .before .before .args in
-    omega (
-      arith,
-      l-n (a .n) (a .states .now) (a .links .now) (a .leaders .now) (a .holds .now) (a .counts .now) (a .p) (given .0) (given .2)
-          (given .3) (given .4),
-      l-counted (a .n) (a .states .now) (a .links .now) (a .leaders .now) (a .holds .now) (a .counts .now) (a .p) (given .0)
-          (given .2) (given .3) (given .4) (given .5),
-      given .0 .sized .base .most,
-      given .0 .sized .counts,
-    )
+slice-write-counts c = omega (arith, released-in (c .before .before .before .before .before .before .before .before .before .pre))
 
 fall-requires : tie.Need-fall-requires
+unfolding withHolds
 fall-requires c κs =
-    let given = c .before .before .before .before .before .before .before .before .before .before .before .before .before .pre in
-    let a = c .before .before .before .before .before .before .before .before .before .before .before .before .before .args in
-    release-tipping (a .n) (a .states .now) (a .links .now) (a .leaders .now) (a .holds .now) (a .counts .now) (a .p) (given .0) (given .2)
-    (given .3) (given .4) (given .5) (a .list .now) (given .1)
+    let begun = c .before .before .before .before .before .before .before .before .before .before .before .before .before in
+    tippings-first (edited-tippings (release-edited (begun .pre)))
 
 let-go-requires : tie.Need-let-go-requires
+unfolding withHolds
 let-go-requires c κs =
-    let given = c .before .before .before .before .before .before .before .before .before .before .before .before .before .before .before .before .before .before .before .before .before .before .before .pre in
-    let fell = c .before .before .before .before .before .before .before .before .before .fall in
-    let a = c .before .before .before .before .before .before .before .before .before .before .before .before .before .before .before .before .before .before .before .before .before .before .before .args in
-    release-going (a .n) (a .states .now) (a .links .now) (a .leaders .now) (a .holds .now) (a .counts .now) (a .p) (given .0) (given .2) (given .3)
-    (given .4) (given .5) (a .list .now) (given .1) (fell .last .1 .0) (fell .last .1 .1 .1 .1 .0) (fell .result) (fell .ensures)
+    let fell = c .before .before .before .before .before .before .before .before .before in
+    let begun = fell .before .before .before .before .before .before .before .before .before .before .before .before .before .before in
+    edited-going (release-edited (begun .pre)) (tumbled-one (fell .fall .ensures))
 
 same-length : tie.Need-same-length
 same-length c =
-    let freed = c .before .before .before .before .before .before .before .before .before .before .let-go in
-    let fell = c .before .before .before .before .before .before .before .before .before .before .before .before .before .before .before .before .before .before .before .before .fall in
-    freed .kept .1 .0 ∙ fell .kept .1 .0
+    let freed = c .before .before .before .before .before .before .before .before .before .before in
+    let fell = freed .before .before .before .before .before .before .before .before .before .before in
+    freed .let-go .kept .1 .0 ∙ fell .fall .kept .1 .0
 
 same-length-2 : tie.Need-same-length-2
 same-length-2 c = c .before .before .before .before .before .before .before .before .before .before .let-go .kept .1 .1 .0
@@ -135,27 +78,21 @@ same-length-4 : tie.Need-same-length-4
 same-length-4 c = search needs
 
 same-length-5 : tie.Need-same-length-5
-same-length-5 c =
-    let a = c .before .before .before .before .before .before .before .before .before .before .before .before .before .before .before .before .before .before .before .before .before .before .before .before .before .before .before .before .before .before .before .before .before .before .args in
-    let freed = c .before .before .before .before .before .before .before .before .before .before .let-go in
-    freed .kept .1 .1 .1 .1 .0 ∙ length-set (a .counts .now) (a .leaders .now ! a .p) (a .counts .now ! (a .leaders .now ! a .p) - 1)
+same-length-5 c = c .before .before .before .before .before .before .before .before .before .before .let-go .kept .1 .1 .1 .1 .0 ∙ simp length-set
 
 same-length-6 : tie.Need-same-length-6
 same-length-6 c =
-    let freed = c .before .before .before .before .before .before .before .before .before .before .let-go in
-    let fell = c .before .before .before .before .before .before .before .before .before .before .before .before .before .before .before .before .before .before .before .before .fall in
-    freed .kept .1 .1 .1 .1 .1 .0 ∙ fell .kept .1 .1 .1 .1 .0
+    let freed = c .before .before .before .before .before .before .before .before .before .before in
+    let fell = freed .before .before .before .before .before .before .before .before .before .before in
+    freed .let-go .kept .1 .1 .1 .1 .1 .0 ∙ fell .fall .kept .1 .1 .1 .1 .0
 
 returns : tie.Need-returns
+unfolding withHolds
 returns c =
-    let freed = c .before .before .before .before .before .before .before .before .before .before .let-go in
-    let given = c .before .before .before .before .before .before .before .before .before .before .before .before .before .before .before .before .before .before .before .before .before .before .before .before .before .before .before .before .before .before .before .before .before .before .pre in
-    let fell = c .before .before .before .before .before .before .before .before .before .before .before .before .before .before .before .before .before .before .before .before .fall in
-    let a = c .before .before .before .before .before .before .before .before .before .before .before .before .before .before .before .before .before .before .before .before .before .before .before .before .before .before .before .before .before .before .before .before .before .before .args in
-    released (a .n) (a .states .now) (a .links .now) (a .leaders .now) (a .holds .now) (a .counts .now) (a .p) (given .0) (given .2) (given .3)
-    (given .4) (given .5) (a .list .now) (given .1) (fell .last .1 .0) (fell .last .1 .1 .1 .1 .0) (fell .result) (fell .ensures)
-    (fell .kept .1 .1 .1 .1 .0) (freed .last .1 .0) (freed .last .1 .1 .0) (freed .last .1 .1 .1 .0) (freed .last .1 .1 .1 .1 .0)
-    (freed .last .1 .1 .1 .1 .1 .0) (freed .result) (freed .ensures)
+    let freed = c .before .before .before .before .before .before .before .before .before .before in
+    let fell = freed .before .before .before .before .before .before .before .before .before .before in
+    let begun = fell .before .before .before .before .before .before .before .before .before .before .before .before .before .before in
+    edited-done (release-edited (begun .pre)) (tumbled-one (fell .fall .ensures)) (fell .fall .kept .1 .1 .1 .1 .0) (freed .let-go .ensures)
 
 pub let-hold-go-spec : {M : Type 1} → statement M
 let-hold-go-spec =

@@ -2,40 +2,25 @@
 -- Assumes nothing.
 use native.Mathlib.Omega.{arith}
 use borrow.Author.Needs.{needs}
-use Rattle.rules.specs.Calls.{storeOf}
-use Rattle.rules.specs.declared.Command.the-variants.{Release}
-use Rattle.falling.specs.Steps.{base}
 use Rattle.editing.specs.Names.{release-names, number-refused, free-refused, state-refused}
 use Rattle.editing.specs.Holds.{release-held}
 use Rattle.holding.proofs.release.Statement.{statement}
 use Rattle.holding.proofs.release.Tie as tie
 
 returns : tie.Need-returns
-returns c =
-    let a = c .before .before .before .before .before .before .before .args in
-    number-refused (Release (a .p)) (storeOf (a .n) (a .states .now) (a .links .now) (a .leaders .now) (a .holds .now) (a .counts .now)) (a .p) 1
-    (release-names (base (a .n) (a .states .now) (a .links .now) (a .holds .now)) (a .p)) (a .list .now) (c .if1 .taken)
+returns c = number-refused release-names (c .if1 .taken)
 
 slice-read-if2 : tie.Need-slice-read-if2
 slice-read-if2 c = search needs
 
 returns-2 : tie.Need-returns-2
-returns-2 c =
-    let a = c .before .before .before .before .before .before .before .before .before .args in
-    free-refused (Release (a .p)) (storeOf (a .n) (a .states .now) (a .links .now) (a .leaders .now) (a .holds .now) (a .counts .now)) (a .p) 1
-    (release-names (base (a .n) (a .states .now) (a .links .now) (a .holds .now)) (a .p)) (c .before .before .if1 .left) (a .list .now)
-    (c .if2 .taken)
+returns-2 c = free-refused release-names (c .before .before .if1 .left) (c .if2 .taken)
 
 slice-read-if3 : tie.Need-slice-read-if3
 slice-read-if3 c = search needs
 
 returns-3 : tie.Need-returns-3
-returns-3 c =
-    let a = c .before .before .before .before .before .before .before .before .before .before .before .args in
-    let if1 = c .before .before .before .before .if1 in
-    state-refused (Release (a .p)) (storeOf (a .n) (a .states .now) (a .links .now) (a .leaders .now) (a .holds .now) (a .counts .now)) (a .p) 1
-    (release-names (base (a .n) (a .states .now) (a .links .now) (a .holds .now)) (a .p)) (if1 .left) (c .before .before .if2 .left) (a .list .now)
-    (c .if3 .taken)
+returns-3 c = state-refused release-names (c .before .before .before .before .if1 .left) (c .before .before .if2 .left) (c .if3 .taken)
 
 mul-if4 : tie.Need-mul-if4
 mul-if4 c = search needs
@@ -45,21 +30,26 @@ slice-read-if4 c = search needs
 
 returns-4 : tie.Need-returns-4
 returns-4 c =
-    let a = c .before .before .before .before .before .before .before .before .before .before .before .before .before .args in
-    let given = c .before .before .before .before .before .before .before .before .before .before .before .before .before .pre in
-    let if1 = c .before .before .before .before .before .before .if1 in
-    let if2 = c .before .before .before .before .if2 in
-    release-held (a .n) (a .states .now) (a .links .now) (a .leaders .now) (a .holds .now) (a .counts .now) (a .p) (given .0) (if1 .left) (if2 .left)
-    (c .before .before .if3 .left) (a .list .now) (c .if4 .taken)
+    let frozen = c .before .before in
+    let live = frozen .before .before in
+    let below = live .before .before in
+    release-held (below .if1 .left) (live .if2 .left) (frozen .if3 .left) (c .if4 .taken)
 
 let-hold-go-requires : tie.Need-let-hold-go-requires
 let-hold-go-requires c κs =
-    let given = c .before .before .before .before .before .before .before .before .before .before .before .before .before .before .before .before .before .before .before .pre in
-    let if1 = c .before .before .before .before .before .before .before .before .before .before .before .before .if1 in
-    let if2 = c .before .before .before .before .before .before .before .before .before .before .if2 in
-    let if3 = c .before .before .before .before .before .before .before .before .if3 in
-    let if4 = c .before .before .before .before .before .before .if4 in
-    (given .0, given .1, if1 .left, if2 .left, if3 .left, if4 .left)
+    let held = c .before .before .before .before .before .before in
+    let frozen = held .before .before in
+    let live = frozen .before .before in
+    let below = live .before .before in
+    let begun = below .before .before .before .before .before .before .before in
+    record {
+      ready = begun .pre .0;
+      room = begun .pre .1;
+      below = below .if1 .left;
+      live = live .if2 .left;
+      other = frozen .if3 .left;
+      some = held .if4 .left;
+    }
 
 cast-freed : tie.Need-cast-freed
 cast-freed c = omega (arith, c .before .before .before .before .before .before .before .before .before .before .before .before .let-hold-go .ensures .few)
@@ -77,14 +67,10 @@ same-length-4 : tie.Need-same-length-4
 same-length-4 c = c .before .before .before .before .before .before .before .before .before .before .before .before .let-hold-go .kept .1 .1 .1 .1 .0
 
 same-length-5 : tie.Need-same-length-5
-same-length-5 c =
-    let work = c .before .before .before .before .before .before .before .before .before .before .before .before .let-hold-go in
-    work .kept .1 .1 .1 .1 .1 .0
+same-length-5 c = c .before .before .before .before .before .before .before .before .before .before .before .before .let-hold-go .kept .1 .1 .1 .1 .1 .0
 
 same-length-6 : tie.Need-same-length-6
-same-length-6 c =
-    let work = c .before .before .before .before .before .before .before .before .before .before .before .before .let-hold-go in
-    work .kept .1 .1 .1 .1 .1 .1 .0
+same-length-6 c = c .before .before .before .before .before .before .before .before .before .before .before .before .let-hold-go .kept .1 .1 .1 .1 .1 .1 .0
 
 returns-5 : tie.Need-returns-5
 returns-5 c = c .before .before .before .before .before .before .before .before .before .before .before .before .let-hold-go .ensures .did

@@ -58,7 +58,8 @@ module _ (b : Base) (z : SizedBase b) (g : Good b) (p : ℕ) (h : p < b .n) (dr 
   fr-live : (q : ℕ) → Live b q → Live fr q
   unfolding fr freezeFirst
   fr-live q (inr f) = inr (fr-frozen q f)
-  fr-live q (inl d) = ⊎-elim (λ t. inr (record { below = d .below; is = fr-turns q (d .below) t })) (λ t. inl (record { below = d .below; is = fr-stays q (d .below) t ∙ d .is })) (T-dec (turns q))
+  fr-live q (inl d) =
+      ⊎-elim (λ t. inr (record { below = d .below; is = fr-turns q (d .below) t })) (λ t. inl (record { below = d .below; is = fr-stays q (d .below) t ∙ d .is })) (T-dec (turns q))
 
   fr-self : Frozen fr p
   fr-self = fr-reached p (inl (record { below = h; is = dr })) here
@@ -88,7 +89,9 @@ module _ (b : Base) (z : SizedBase b) (g : Good b) (p : ℕ) (h : p < b .n) (dr 
           let w = draft-of b q (g .wells q m) (x .0 .is) in
           record {
             is = fr-turns q m t;
-            links = λ k i. ⊎-elim (λ y. inl y) (λ y. inr (fr-reached (linkAt b q k) y (trans (x .1) (chain (record { from = m; to = below y; place = k; inside = i; names = refl }) here)))) (w .links k i);
+            links =
+                λ k i. ⊎-elim (λ y. inl y) (λ y. inr (fr-reached (linkAt b q k) y
+                (trans (x .1) (chain (record { from = m; to = below y; place = k; inside = i; names = refl }) here)))) (w .links k i);
             holds = fr-few q (let y = w .holds in omega arith);
           }
         where
@@ -101,8 +104,10 @@ module _ (b : Base) (z : SizedBase b) (g : Good b) (p : ℕ) (h : p < b .n) (dr 
 
       old : T (not (turns q)) → Well b q → Well fr q
       old t (wfree w) = wfree (record { is = fr-stays q m t ∙ w .is; links = w .links; holds = fr-holds q (np t) ∙ w .holds })
-      old t (wdraft w) = wdraft (record { is = fr-stays q m t ∙ w .is; links = λ k i. ⊎-elim (λ y. inl y) (λ y. inr (fr-live (linkAt b q k) y)) (w .links k i); holds = fr-holds q (np t) ∙ w .holds })
-      old t (wfrozen w) = wfrozen (record { is = fr-stays q m t ∙ w .is; links = λ k i. ⊎-elim (λ y. inl y) (λ y. inr (fr-frozen (linkAt b q k) y)) (w .links k i); holds = fr-few q (w .holds) })
+      old t (wdraft w) =
+          wdraft (record { is = fr-stays q m t ∙ w .is; links = λ k i. ⊎-elim (λ y. inl y) (λ y. inr (fr-live (linkAt b q k) y)) (w .links k i); holds = fr-holds q (np t) ∙ w .holds })
+      old t (wfrozen w) =
+          wfrozen (record { is = fr-stays q m t ∙ w .is; links = λ k i. ⊎-elim (λ y. inl y) (λ y. inr (fr-frozen (linkAt b q k) y)) (w .links k i); holds = fr-few q (w .holds) })
 
   pub fr-good : Good fr
   unfolding fr freezeFirst linkAt
@@ -112,7 +117,9 @@ module _ (b : Base) (z : SizedBase b) (g : Good b) (p : ℕ) (h : p < b .n) (dr 
       fromP q r = record { root = p; is = inr (fr-self, let a = fr-held p refl in omega arith); reached = r }
 
       root : (q r : ℕ) → Reaches b r q → Root b r → Kept fr q
-      root q r x (inl d) = ⊎-elim (λ t. fromP q (trans (turned r (d .below) t .1) x)) (λ t. record { root = r; is = inl (record { below = d .below; is = fr-stays r (d .below) t ∙ d .is }); reached = x }) (T-dec (turns r))
+      root q r x (inl d) =
+          ⊎-elim (λ t. fromP q (trans (turned r (d .below) t .1) x)) (λ t.
+          record { root = r; is = inl (record { below = d .below; is = fr-stays r (d .below) t ∙ d .is }); reached = x }) (T-dec (turns r))
       root q r x (inr d) = record { root = r; is = inr (fr-frozen r (d .0), few (ℕ-discrete r p)); reached = x }
         where
           few : Dec (r ≡ p) → 0 < holdsOf fr r

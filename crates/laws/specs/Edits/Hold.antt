@@ -50,14 +50,17 @@ module _ (b : Base) (z : SizedBase b) (ws : Wells b) (p v : ℕ) (h : p < b .n) 
   hold-well q m = go (ℕ-discrete q p) (ws q m)
     where
       go : Dec (q ≡ p) → Well b q → Well holdBase q
-      go (yes e) w = let f = frozen-of b q w (ap (state b) e ∙ fz) in wfrozen (record { is = f .is; links = λ k i. hold-flinks q k (f .links k i); holds = subst (λ (x : ℕ). x ≤ 1000) (sym (hold-at q e)) v≤ })
+      go (yes e) w =
+          let f = frozen-of b q w (ap (state b) e ∙ fz) in
+          wfrozen (record { is = f .is; links = λ k i. hold-flinks q k (f .links k i); holds = subst (λ (x : ℕ). x ≤ 1000) (sym (hold-at q e)) v≤ })
       go (no d) (wfree w) = wfree (record { is = w .is; links = w .links; holds = hold-off q d ∙ w .holds })
       go (no d) (wdraft w) = wdraft (record { is = w .is; links = λ k i. hold-dlinks q k (w .links k i); holds = hold-off q d ∙ w .holds })
       go (no d) (wfrozen w) = wfrozen (record { is = w .is; links = λ k i. hold-flinks q k (w .links k i); holds = subst (λ (x : ℕ). x ≤ 1000) (sym (hold-off q d)) (w .holds) })
 
   pub hold-good : Good b → 0 < v → Good holdBase
   unfolding holdBase withHolds state linkAt
-  hold-good g pos = record { wells = hold-well; kept = λ q f. let k = g .kept q (hold-back q f) in record { root = k .root; is = root (k .root) (ℕ-discrete (k .root) p) (k .is); reached = k .reached } }
+  hold-good g pos =
+      record { wells = hold-well; kept = λ q f. let k = g .kept q (hold-back q f) in record { root = k .root; is = root (k .root) (ℕ-discrete (k .root) p) (k .is); reached = k .reached } }
     where
       root : (r : ℕ) → Dec (r ≡ p) → Root b r → Root holdBase r
       root r e (inl d) = inl (hold-draft r d)

@@ -45,7 +45,13 @@ module _ (b : Base) (z : SizedBase b) (g : Good b) (p : ℕ) (h : p < b .n) (fr 
       go : Dec (q ≡ p) → Well b q → Well newBase q
       go (yes e) w = let f = free-of b q w (ap (state b) e ∙ fr) in wdraft (record { is = new-at q e; links = λ k j. inl (f .links k j); holds = f .holds })
       go (no d) (wfree w) = wfree (record { is = new-off q d ∙ w .is; links = w .links; holds = w .holds })
-      go (no d) (wdraft w) = wdraft (record { is = new-off q d ∙ w .is; links = λ k j. ⊎-elim (λ x. inl x) (λ l. inr (⊎-elim (λ x. inl (new-draft (linkAt b q k) x)) (λ x. inr (new-frozen (linkAt b q k) x)) l)) (w .links k j); holds = w .holds })
+      go (no d) (wdraft w) =
+          wdraft (record {
+            is = new-off q d ∙ w .is;
+            links = λ k j. ⊎-elim (λ x. inl x)
+                (λ l. inr (⊎-elim (λ x. inl (new-draft (linkAt b q k) x)) (λ x. inr (new-frozen (linkAt b q k) x)) l)) (w .links k j);
+            holds = w .holds;
+          })
       go (no d) (wfrozen w) = wfrozen (record { is = new-off q d ∙ w .is; links = λ k j. ⊎-elim (λ x. inl x) (λ x. inr (new-frozen (linkAt b q k) x)) (w .links k j); holds = w .holds })
 
   pub new-good : Good newBase

@@ -43,8 +43,20 @@ module _ (b : Base) (z : SizedBase b) (ws : Wells b) (p k t : ℕ) (h : p < b .n
     where
       other : (w : Well b q) → q ≢ p → Well setBase q
       other (wfree w) d = wfree (record { is = w .is; links = λ j n. set-off q j n (inl d) ∙ w .links j n; holds = w .holds })
-      other (wdraft w) d = wdraft (record { is = w .is; links = λ j n. subst (λ (x : ℕ). (x ≡ none) ⊎ Live setBase x) (sym (set-off q j n (inl d))) (⊎-elim (λ x. inl x) (λ x. inr (set-live (linkAt b q j) x)) (w .links j n)); holds = w .holds })
-      other (wfrozen w) d = wfrozen (record { is = w .is; links = λ j n. subst (λ (x : ℕ). (x ≡ none) ⊎ Frozen setBase x) (sym (set-off q j n (inl d))) (⊎-elim (λ x. inl x) (λ x. inr (set-frozen (linkAt b q j) x)) (w .links j n)); holds = w .holds })
+      other (wdraft w) d =
+          wdraft (record {
+            is = w .is;
+            links = λ j n. subst (λ (x : ℕ). (x ≡ none) ⊎ Live setBase x) (sym (set-off q j n (inl d)))
+                (⊎-elim (λ x. inl x) (λ x. inr (set-live (linkAt b q j) x)) (w .links j n));
+            holds = w .holds;
+          })
+      other (wfrozen w) d =
+          wfrozen (record {
+            is = w .is;
+            links = λ j n. subst (λ (x : ℕ). (x ≡ none) ⊎ Frozen setBase x) (sym (set-off q j n (inl d)))
+                (⊎-elim (λ x. inl x) (λ x. inr (set-frozen (linkAt b q j) x)) (w .links j n));
+            holds = w .holds;
+          })
 
       at : (j : ℕ) → j < 4 → DraftWell b p → Dec (j ≡ k) → (linkAt setBase p j ≡ none) ⊎ Live setBase (linkAt setBase p j)
       at j n w (yes e) = subst (λ (x : ℕ). (x ≡ none) ⊎ Live setBase x) (sym (ap (linkAt setBase p) e ∙ set-at)) (⊎-elim (λ x. inl x) (λ x. inr (set-live t x)) ok)

@@ -1,11 +1,7 @@
 -- `lending::copy` copies bytes: the loop keeps `Pasted` up to i. Assumes nothing.
 use Prim.Native.Nat.{_-_, _≤_}
-use mathlib.Core.Path.{_≡_, refl, ap, _∙_}
 use native.Mathlib.Omega.{arith}
-use lib.ListN.{getD}
-use lib.Seq.{paste}
-use borrow.Author.Needs.{needs}
-use Rattle.lending.specs.Poured.{Pasted, pasted-none, pasted-more}
+use Rattle.lending.specs.Pasted.{Pasted, pasted-none, pasted-more, pasted-all}
 use Rattle.lending.proofs.copy.Statement.{statement}
 use Rattle.lending.proofs.copy.Tie as tie
 
@@ -16,31 +12,31 @@ abbrev μ-loop : tie.MeasureT-loop
 μ-loop room₀ at out k i₀ room i = k - i
 
 loop-holds : tie.Need-loop-holds Inv-loop μ-loop
-loop-holds c = (omega arith, pasted-none (c .args .room .now) (c .args .at) (c .args .out .now))
+loop-holds c = (omega arith, pasted-none)
 
 shared-slice-read-room : tie.Need-shared-slice-read-room Inv-loop μ-loop
-shared-slice-read-room c = omega (arith, c .before .before .before .pre .0)
+shared-slice-read-room c = omega arith
 
 add-room : tie.Need-add-room Inv-loop μ-loop
-add-room c = omega (arith, c .before .before .before .pre .1, c .before .before .before .good)
+add-room c = omega arith
 
 slice-write-room : tie.Need-slice-write-room Inv-loop μ-loop
-slice-write-room c = omega (arith, c .before .before .before .pre .1, c .before .before .loop .inv .1 .same)
+slice-write-room c = omega arith
 
 add-i : tie.Need-add-i Inv-loop μ-loop
-add-i c = omega (arith, c .before .before .before .pre .0, c .before .before .before .good)
+add-i c = omega arith
 
 loop-less : tie.Need-loop-less Inv-loop μ-loop
 loop-less c = omega arith
 
 loop-again : tie.Need-loop-again Inv-loop μ-loop
-loop-again c = (omega arith, pasted-more (c .before .before .before .args .room .now) (c .before .before .before .args .at) (c .before .before .before .args .out .now) (c .before .before .loop .i) (c .before .before .loop .room) (getD (c .before .before .before .args .out .now) (c .before .before .loop .i) 0) (omega (arith, c .before .before .before .pre .1)) (omega (arith, c .before .before .before .pre .0)) refl (c .before .before .loop .inv .1))
+loop-again c = (omega arith, pasted-more (c .before .before .loop .inv .1) (omega arith) (omega arith))
 
 same-length : tie.Need-same-length Inv-loop μ-loop
 same-length c = c .before .loop .inv .1 .same
 
 returns : tie.Need-returns Inv-loop μ-loop
-returns c = let e : c .before .loop .i ≡ c .before .before .args .k = omega arith in c .before .loop .inv .1 .is ∙ ap (paste (c .before .before .args .room .now) (c .before .before .args .at) (c .before .before .args .out .now)) e
+returns c = pasted-all (c .before .loop .inv .1) (c .before .before .args .k) (omega arith)
 
 pub copy-spec : {M : Type 1} → statement M
 copy-spec =

@@ -1,61 +1,119 @@
 -- `lending::lent_trace` gives what the rules give: LONG first, else a store that starts empty. Assumes nothing.
-use native.Mathlib.Omega.{arith}
-use lib.ListN.{length-replicate}
 use Prim.Native.Nat.{ℕ}
+use native.Mathlib.Omega.{arith}
 use borrow.Author.Needs.{needs}
-use Rattle.lending.specs.Begun.{empty-stands, lent-long, lent-is}
+use lib.ListN.{length-replicate}
+use Rattle.rules.specs.Tables.{empty}
+use Rattle.lending.specs.Lent.{lent-full, lent-place, lent-ready, lent-all}
+use Rattle.lending.specs.Begun.{begun, lent-long, lent-short}
 use Rattle.lending.proofs.lent_trace.Statement.{statement}
 use Rattle.lending.proofs.lent_trace.Tie as tie
 
+-- places: the trace is poured, on the way to each return; the length of the trace is tested before, and the start
+full : tie.After-enum-told → tie.After-pour-all
+full c = search
+
+written : tie.After-known-told → tie.After-pour-all
+written c = search
+
+closed : tie.After-close → tie.After-known-told
+closed c = search
+
+short : tie.After-pour-all → tie.Else1
+short c = search
+
+asked : tie.Else1 → tie.Start
+asked c = search
+
 returns : tie.Need-returns
-returns c = lent-long (c .before .before .before .args .text .now) (c .before .before .before .args .room .now) (c .if1 .taken)
+returns c =
+    let asked : tie.Start = search in
+    lent-long (asked .args .text .now) (asked .args .room .now) (c .if1 .taken)
 
-slice-aggregate-lend : tie.Need-slice-aggregate-lend
-slice-aggregate-lend c = search needs
+pour-all-requires : tie.Need-pour-all-requires
+unfolding empty
+pour-all-requires c κs = (begun, omega (arith, length-replicate {A = ℕ} 8192 0))
 
-slice-aggregate-lend-2 : tie.Need-slice-aggregate-lend-2
-slice-aggregate-lend-2 c = search needs
+enum-known-place : tie.Need-enum-known-place
+enum-known-place c = search needs
 
-slice-aggregate-lend-3 : tie.Need-slice-aggregate-lend-3
-slice-aggregate-lend-3 c = search needs
+enum-told : tie.Need-enum-told
+enum-told c = search needs
 
-slice-aggregate-lend-4 : tie.Need-slice-aggregate-lend-4
-slice-aggregate-lend-4 c = search needs
-
-slice-aggregate-lend-5 : tie.Need-slice-aggregate-lend-5
-slice-aggregate-lend-5 c = search needs
-
-slice-aggregate-lend-6 : tie.Need-slice-aggregate-lend-6
-slice-aggregate-lend-6 c = search needs
-
-slice-aggregate-lend-7 : tie.Need-slice-aggregate-lend-7
-slice-aggregate-lend-7 c = search needs
-
-slice-aggregate-lend-8 : tie.Need-slice-aggregate-lend-8
-slice-aggregate-lend-8 c = search needs
-
-lend-requires : tie.Need-lend-requires
-lend-requires c κs = (empty-stands 1024 (omega arith) (omega arith), omega (arith, length-replicate {A = ℕ} 8192 0))
+no-room-requires : tie.Need-no-room-requires
+no-room-requires c κs = search needs
 
 same-length : tie.Need-same-length
-same-length c = c .before .before .before .before .before .before .before .before .before .before .lend .kept .1 .1 .1 .1 .1 .1 .1 .1 .1 .1 .1 .0
+same-length c = search needs
 
 returns-2 : tie.Need-returns-2
-returns-2 c = lent-is (c .before .before .before .before .before .before .before .before .before .before .before .before .before .before .before .before .before .before .before .before .before .before .before .args .text .now) (c .before .before .before .before .before .before .before .before .before .before .before .before .before .before .before .before .before .before .before .before .before .before .before .args .room .now) (c .before .before .before .before .before .before .before .before .before .before .lend .last .1 .1 .1 .1 .1 .1 .1 .1 .1 .1 .1 .0) (c .before .before .before .before .before .before .before .before .before .before .lend .result) (c .before .before .before .before .before .before .before .before .before .before .before .before .before .before .before .before .before .before .before .before .if1 .left) (c .before .before .before .before .before .before .before .before .before .before .lend .ensures)
+unfolding empty full short asked
+returns-2 c =
+    let told : tie.After-enum-told = search in
+    let a = asked (short (full told)) .args in
+    lent-short (a .text .now) (a .room .now) (short (full told) .if1 .left)
+    (lent-full (full told .pour-all .ensures) (omega (arith, full told .pour-all .kept)) (told .enum-told .given .1) (c .before .before .no-room .ensures))
+
+close-requires : tie.Need-close-requires
+unfolding written
+close-requires c κs =
+    let told : tie.After-known-told = search in
+    let sized = lent-ready (written told .pour-all .ensures) (omega (arith, written told .pour-all .kept)) (told .before .place .given .1) .sized in (
+      sized .base .most,
+      sized .base .states,
+      sized .leaders,
+      omega (arith, written told .pour-all .kept, length-replicate {A = ℕ} 8192 0),
+    )
+
+slice-aggregate-finish : tie.Need-slice-aggregate-finish
+slice-aggregate-finish c = search needs
+
+finish-requires : tie.Need-finish-requires
+unfolding written closed
+finish-requires c κs =
+    let close : tie.After-close = search in
+    let told = closed close in (
+      lent-place (written told .pour-all .ensures) (omega (arith, written told .pour-all .kept)) (told .before .place .given .1),
+      omega (arith, close .close .ensures .few, close .close .kept, written told .pour-all .kept, length-replicate {A = ℕ} 8192 0),
+    )
+
+same-length-2 : tie.Need-same-length-2
+same-length-2 c = search needs
+
+returns-3 : tie.Need-returns-3
+unfolding empty written closed short asked
+returns-3 c =
+    let close : tie.After-close = search in
+    let told = closed close in
+    let a = asked (short (written told)) .args in
+    lent-short (a .text .now) (a .room .now) (short (written told) .if1 .left)
+    (lent-all (written told .pour-all .ensures) (omega (arith, written told .pour-all .kept)) (told .before .place .given .1)
+    (close .close .ensures) (omega (arith, close .close .ensures .few, written told .pour-all .kept, length-replicate {A = ℕ} 8192 0)) (c .before .before .finish .ensures))
 
 pub lent-trace-spec : {M : Type 1} → statement M
 lent-trace-spec =
     tie.close
     (tie.spec
     returns
-    slice-aggregate-lend
-    slice-aggregate-lend-2
-    slice-aggregate-lend-3
-    slice-aggregate-lend-4
-    slice-aggregate-lend-5
-    slice-aggregate-lend-6
-    slice-aggregate-lend-7
-    slice-aggregate-lend-8
-    lend-requires
+    (λ c. search needs)
+    (λ c. search needs)
+    (λ c. search needs)
+    (λ c. search needs)
+    (λ c. search needs)
+    (λ c. search needs)
+    (λ c. search needs)
+    (λ c. search needs)
+    pour-all-requires
+    enum-known-place
+    enum-told
+    no-room-requires
     same-length
-    returns-2)
+    returns-2
+    (λ c. search needs)
+    (λ c. search needs)
+    (λ c. search needs)
+    close-requires
+    slice-aggregate-finish
+    finish-requires
+    same-length-2
+    returns-3)

@@ -1,85 +1,60 @@
--- `letting_go::drain` meets its contract. The loop's invariant: the steps so far, whatever the letting go began with. The measure is what is left of 4n places.
--- Assumes nothing.
+-- `letting_go::drain` meets its contract. The loop's invariant: the steps so far, whatever the letting go began with, and every table keeps its length.
+-- The measure is what is left of 4n places. Assumes nothing.
 use native.Mathlib.Omega.{arith}
-use Prim.Native.Nat.{ℕ, _+_, _-_, _*_}
-use mathlib.Core.Path.{_≡_, refl, _∙_, subst}
+use Prim.Native.Nat.{_-_, _*_}
+use mathlib.Core.Path.{_≡_, refl, _∙_}
 use lib.ListN.{length}
-use Rattle.falling.specs.Steps.{Stepped, stepped-none, stepped-on, going-on}
+use Rattle.falling.specs.Steps.{Stepped, stepped-none, stepped-on, stepped-all, going-on}
 use Rattle.falling.specs.Places.{tail-in}
 use Rattle.letting_go.proofs.drain.Statement.{statement}
 use Rattle.letting_go.proofs.drain.Tie as tie
 
 abbrev Inv-loop : tie.InvT-loop
-Inv-loop n states₀ links₀ leaders counts₀ list₀ first tail₀ m₀ states links counts list tail m = Stepped n leaders states₀ links₀ counts₀ list₀ 0 first states links counts list m tail × (length states ≡ length states₀) × (length links ≡ length links₀) × (length counts ≡ length counts₀) × (length list ≡ length list₀)
+Inv-loop n states₀ links₀ leaders counts₀ list₀ first tail₀ m₀ states links counts list tail m =
+    Stepped n leaders states₀ links₀ counts₀ list₀ 0 first states links counts list m tail × (length states ≡ length states₀)
+    × (length links ≡ length links₀) × (length counts ≡ length counts₀) × (length list ≡ length list₀)
 
 abbrev μ-loop : tie.MeasureT-loop
 μ-loop n states₀ links₀ leaders counts₀ list₀ first tail₀ m₀ states links counts list tail m = 4 * n - m
 
 loop-holds : tie.Need-loop-holds Inv-loop μ-loop
-loop-holds c =
-    let a = c .before .before .before .before .before .args in
-    (stepped-none (a .n) (a .leaders .now) (a .states .now) (a .links .now) (a .counts .now) (a .list .now) 0 (a .first), refl, refl, refl, refl)
+loop-holds c = (stepped-none, refl, refl, refl, refl)
 
 mul-loop : tie.Need-mul-loop Inv-loop μ-loop
-mul-loop c =
-    let a = c .before .before .before .before .before .before .args in
-    let l = c .loop in
-    let given = c .before .before .before .before .before .before .pre in
-    omega (
-      arith,
-      tail-in (a .n) (a .leaders .now) (l .states) (l .links) (l .counts) (l .list) (l .m) (l .tail)
-          (going-on (a .n) (a .leaders .now) (a .states .now) (a .links .now) (a .counts .now) (a .list .now) 0 (a .first) (l .states) (l .links)
-          (l .counts) (l .list) (l .m) (l .tail) given (l .inv .0)),
-    )
+mul-loop c = omega (arith, tail-in (going-on (c .before .before .before .before .before .before .pre) (c .loop .inv .0)))
 
 drop-place-requires : tie.Need-drop-place-requires Inv-loop μ-loop
 drop-place-requires c κs =
-    let a = c .before .before .before .before .before .before .before .before .before .before .before .args in
-    let l = c .before .before .before .before .before .loop in
-    let given = c .before .before .before .before .before .before .before .before .before .before .before .pre in
-    let test = c .before .before .before .before .loop-test in (
-      going-on (a .n) (a .leaders .now) (a .states .now) (a .links .now) (a .counts .now) (a .list .now) 0 (a .first) (l .states) (l .links)
-          (l .counts) (l .list) (l .m) (l .tail) given (l .inv .0),
-      test .taken,
-    )
+    let test = c .before .before .before .before in
+    let here = test .before in
+    let begun = here .before .before .before .before .before .before in
+    (going-on (begun .pre) (here .loop .inv .0), test .loop-test .taken)
 
 add-m : tie.Need-add-m Inv-loop μ-loop
 add-m c =
-    let a = c .before .before .before .before .before .before .before .before .before .before .before .before .before .before .before .before .before .before .before .before .args in
-    let l = c .before .before .before .before .before .before .before .before .before .before .before .before .before .before .loop in
-    let given = c .before .before .before .before .before .before .before .before .before .before .before .before .before .before .before .before .before .before .before .before .pre in
-    omega (
-      arith,
-      tail-in (a .n) (a .leaders .now) (l .states) (l .links) (l .counts) (l .list) (l .m) (l .tail)
-          (going-on (a .n) (a .leaders .now) (a .states .now) (a .links .now) (a .counts .now) (a .list .now) 0 (a .first) (l .states) (l .links)
-          (l .counts) (l .list) (l .m) (l .tail) given (l .inv .0)),
-    )
+    let test = c .before .before .before .before .before .before .before .before .before .before .before .before .before in
+    let here = test .before in
+    let begun = here .before .before .before .before .before .before in
+    omega (arith, tail-in (going-on (begun .pre) (here .loop .inv .0)), test .loop-test .taken)
 
 loop-less : tie.Need-loop-less Inv-loop μ-loop
 loop-less c =
-    let a = c .before .before .before .before .before .before .before .before .before .before .before .before .before .before .before .before .before .before .before .before .args in
-    let l = c .before .before .before .before .before .before .before .before .before .before .before .before .before .before .loop in
-    let given = c .before .before .before .before .before .before .before .before .before .before .before .before .before .before .before .before .before .before .before .before .pre in
-    omega (
-      arith,
-      tail-in (a .n) (a .leaders .now) (l .states) (l .links) (l .counts) (l .list) (l .m) (l .tail)
-          (going-on (a .n) (a .leaders .now) (a .states .now) (a .links .now) (a .counts .now) (a .list .now) 0 (a .first) (l .states) (l .links)
-          (l .counts) (l .list) (l .m) (l .tail) given (l .inv .0)),
-    )
+    let test = c .before .before .before .before .before .before .before .before .before .before .before .before .before in
+    let here = test .before in
+    let begun = here .before .before .before .before .before .before in
+    omega (arith, tail-in (going-on (begun .pre) (here .loop .inv .0)), test .loop-test .taken)
 
 loop-again : tie.Need-loop-again Inv-loop μ-loop
 loop-again c =
-    let a = c .before .before .before .before .before .before .before .before .before .before .before .before .before .before .before .before .before .before .before .before .args in
-    let l = c .before .before .before .before .before .before .before .before .before .before .before .before .before .before .loop in
-    let d = c .before .before .before .before .before .before .before .before .drop-place in (
-      stepped-on (a .n) (a .leaders .now) (a .states .now) (a .links .now) (a .counts .now) (a .list .now) 0 (a .first) (l .states) (l .links)
-          (l .counts) (l .list) (l .m) (l .tail) (d .last .1 .0) (d .last .1 .1 .0) (d .last .1 .1 .1 .1 .0) (d .last .1 .1 .1 .1 .1 .0) (l .m + 1)
-          (d .result) (l .inv .0) (d .ensures),
-      d .kept .1 .0 ∙ l .inv .1,
-      d .kept .1 .1 .0 ∙ l .inv .2,
-      d .kept .1 .1 .1 .1 .0 ∙ l .inv .3,
-      d .kept .1 .1
-          .1 .1 .1 .0 ∙ l .inv .4,
+    let dropped = c .before .before .before .before .before .before .before .before in
+    let here = dropped .before .before .before .before .before .before in
+    let loop = here .loop in
+    let step = dropped .drop-place in (
+      stepped-on (loop .inv .0) (step .ensures),
+      step .kept .1 .0 ∙ loop .inv .1,
+      step .kept .1 .1 .0 ∙ loop .inv .2,
+      step .kept .1 .1 .1 .1 .0 ∙ loop .inv .3,
+      step .kept .1 .1 .1 .1 .1 .0 ∙ loop .inv .4,
     )
 
 same-length : tie.Need-same-length Inv-loop μ-loop
@@ -96,17 +71,9 @@ same-length-4 c = c .before .loop .inv .4
 
 returns : tie.Need-returns Inv-loop μ-loop
 returns c =
-    let a = c .before .before .before .before .before .before .before .args in
-    let l = c .before .loop in
-    let given = c .before .before .before .before .before .before .before .pre in
-    subst (λ (m : ℕ). Stepped (a .n) (a .leaders .now) (a .states .now) (a .links .now) (a .counts .now) (a .list .now) 0 (a .first) (l .states)
-    (l .links) (l .counts) (l .list) m (l .tail))
-    (omega (
-      arith,
-      tail-in (a .n) (a .leaders .now) (l .states) (l .links) (l .counts) (l .list) (l .m) (l .tail)
-          (going-on (a .n) (a .leaders .now) (a .states .now) (a .links .now) (a .counts .now) (a .list .now) 0 (a .first) (l .states) (l .links)
-          (l .counts) (l .list) (l .m) (l .tail) given (l .inv .0)),
-    )) (l .inv .0)
+    let here = c .before in
+    let begun = here .before .before .before .before .before .before in
+    stepped-all (begun .pre) (here .loop .inv .0) (c .loop-test .left)
 
 pub drain-spec : {M : Type 1} → statement M
 drain-spec =

@@ -7,7 +7,7 @@ use Rattle.letting_go.proofs.fall.Statement.{statement}
 use Rattle.letting_go.proofs.fall.Tie as tie
 
 returns : tie.Need-returns
-returns c = let a = c .before .args in tipped-past (a .n) (a .states .now) (a .leaders .now) (a .counts .now) (a .list .now) (a .t) (a .tail) (c .if1 .taken)
+returns c = tipped-past (c .if1 .taken)
 
 mul-l : tie.Need-mul-l
 mul-l c = search needs
@@ -19,10 +19,7 @@ cast-l : tie.Need-cast-l
 cast-l c = omega (arith, c .shared-slice-known .given (c .before .before .args .t))
 
 returns-2 : tie.Need-returns-2
-returns-2 c =
-    let a = c .before .before .before .args in
-    tipped-bare (a .n) (a .states .now) (a .leaders .now) (a .counts .now) (a .list .now) (a .t) (a .tail) (c .before .before .if1 .left)
-    (c .if2 .taken)
+returns-2 c = tipped-bare (c .before .before .if1 .left) (c .if2 .taken)
 
 mul-if3 : tie.Need-mul-if3
 mul-if3 c = search needs
@@ -31,21 +28,13 @@ shared-slice-read-if3 : tie.Need-shared-slice-read-if3
 shared-slice-read-if3 c = search needs
 
 returns-3 : tie.Need-returns-3
-returns-3 c =
-    let a = c .before .before .before .before .before .args in
-    let if1 = c .before .before .before .before .if1 in
-    tipped-counted (a .n) (a .states .now) (a .leaders .now) (a .counts .now) (a .list .now) (a .t) (a .tail) (if1 .left)
-    (c .before .before .if2 .left) (c .if3 .taken)
+returns-3 c = tipped-counted (c .before .before .before .before .if1 .left) (c .if3 .taken)
 
 slice-read-if4 : tie.Need-slice-read-if4
 slice-read-if4 c = search needs
 
 returns-4 : tie.Need-returns-4
-returns-4 c =
-    let a = c .before .before .before .before .before .before .before .args in
-    let if1 = c .before .before .before .before .before .before .if1 in
-    let if2 = c .before .before .before .before .if2 in
-    tipped-there (a .n) (a .states .now) (a .leaders .now) (a .counts .now) (a .list .now) (a .t) (a .tail) (if1 .left) (if2 .left) (c .if4 .taken)
+returns-4 c = tipped-there (c .before .before .before .before .before .before .if1 .left) (c .if4 .taken)
 
 slice-write-states : tie.Need-slice-write-states
 slice-write-states c = search needs
@@ -55,39 +44,24 @@ cast-list c = search needs
 
 mul-list : tie.Need-mul-list
 mul-list c =
-    let a = c .before .before .before .before .before .before .before .args in
-    let if1 = c .before .before .before .before .before .before .if1 in
-    let if2 = c .before .before .before .before .if2 in
     let given = c .before .before .before .before .before .before .before .pre in
-    omega (
-      arith,
-      tip-room (a .n) (a .states .now) (a .leaders .now) (a .counts .now) (a .list .now) (a .t) (a .tail) (if1 .left) (if2 .left) given
-          (c .before .before .if3 .left) (c .if4 .left),
-    )
+    let some = c .before .before .before .before .before .before .if1 .left in
+    let led = c .before .before .before .before .if2 .left in
+    omega (arith, tip-room some led (c .before .before .if3 .left) (c .if4 .left) given)
 
 slice-write-list : tie.Need-slice-write-list
 slice-write-list c =
-    let a = c .before .before .before .before .before .before .before .args in
-    let if1 = c .before .before .before .before .before .before .if1 in
-    let if2 = c .before .before .before .before .if2 in
     let given = c .before .before .before .before .before .before .before .pre in
-    omega (
-      arith,
-      tip-room (a .n) (a .states .now) (a .leaders .now) (a .counts .now) (a .list .now) (a .t) (a .tail) (if1 .left) (if2 .left) given
-          (c .before .before .if3 .left) (c .if4 .left),
-    )
+    let some = c .before .before .before .before .before .before .if1 .left in
+    let led = c .before .before .before .before .if2 .left in
+    omega (arith, tip-room some led (c .before .before .if3 .left) (c .if4 .left) given)
 
 add-result : tie.Need-add-result
 add-result c =
-    let a = c .before .before .before .before .before .before .before .args in
-    let if1 = c .before .before .before .before .before .before .if1 in
-    let if2 = c .before .before .before .before .if2 in
     let given = c .before .before .before .before .before .before .before .pre in
-    omega (
-      arith,
-      tip-room (a .n) (a .states .now) (a .leaders .now) (a .counts .now) (a .list .now) (a .t) (a .tail) (if1 .left) (if2 .left) given
-          (c .before .before .if3 .left) (c .if4 .left),
-    )
+    let some = c .before .before .before .before .before .before .if1 .left in
+    let led = c .before .before .before .before .if2 .left in
+    omega (arith, tip-room some led (c .before .before .if3 .left) (c .if4 .left) given)
 
 same-length : tie.Need-same-length
 same-length c = search needs
@@ -97,11 +71,9 @@ same-length-2 c = search needs
 
 returns-5 : tie.Need-returns-5
 returns-5 c =
-    let a = c .before .before .before .before .before .before .before .args in
-    let if1 = c .before .before .before .before .before .before .if1 in
-    let if2 = c .before .before .before .before .if2 in
-    tipped-mark (a .n) (a .states .now) (a .leaders .now) (a .counts .now) (a .list .now) (a .t) (a .tail) (if1 .left) (if2 .left)
-    (c .before .before .if3 .left) (c .if4 .left)
+    let some = c .before .before .before .before .before .before .if1 .left in
+    let led = c .before .before .before .before .if2 .left in
+    tipped-mark some led (c .before .before .if3 .left) (c .if4 .left)
 
 pub fall-spec : {M : Type 1} → statement M
 fall-spec =

@@ -1,13 +1,12 @@
 -- `linking::count_out` meets its contract: each way through it is one law of what a target counts for. Assumes nothing.
 use native.Mathlib.Omega.{arith}
-use Prim.Native.Nat.{_-_}
-use Rattle.editing.specs.Relink.{out-past, out-bare, out-some, out-hit}
 use borrow.Author.Needs.{needs}
+use Rattle.editing.specs.Relink.{out-past, out-bare, out-some, out-hit}
 use Rattle.linking.proofs.count_out.Statement.{statement}
 use Rattle.linking.proofs.count_out.Tie as tie
 
 returns : tie.Need-returns
-returns c = out-past (c .before .args .n) (c .before .args .leaders .now) (c .before .args .counts .now) (c .before .pre .0) (c .before .args .t) (c .if1 .taken)
+returns c = out-past (c .before .pre) (c .if1 .taken)
 
 mul-l : tie.Need-mul-l
 mul-l c = search needs
@@ -19,10 +18,7 @@ cast-l : tie.Need-cast-l
 cast-l c = omega (arith, c .shared-slice-known .given (c .before .before .args .t))
 
 returns-2 : tie.Need-returns-2
-returns-2 c =
-    let a = c .before .before .before .args in
-    let given = c .before .before .before .pre in
-    out-bare (a .n) (a .leaders .now) (a .counts .now) (given .0) (a .t) (c .before .before .if1 .left) (c .if2 .taken)
+returns-2 c = out-bare (c .before .before .before .pre) (c .before .before .if1 .left) (c .if2 .taken)
 
 mul-counts : tie.Need-mul-counts
 mul-counts c = search needs
@@ -31,11 +27,7 @@ slice-read-counts : tie.Need-slice-read-counts
 slice-read-counts c = search needs
 
 sub-counts : tie.Need-sub-counts
-sub-counts c =
-    let a = c .before .before .before .before .args in
-    let given = c .before .before .before .before .pre in
-    let if1 = c .before .before .before .if1 in
-    omega (arith, out-some (a .n) (a .leaders .now) (a .counts .now) (given .0) (a .t) (given .1) (if1 .left) (c .before .if2 .left))
+sub-counts c = omega (arith, out-some (c .before .before .before .before .pre) (c .before .before .before .if1 .left) (c .before .if2 .left))
 
 mul-counts-2 : tie.Need-mul-counts-2
 mul-counts-2 c = search needs
@@ -47,11 +39,7 @@ same-length : tie.Need-same-length
 same-length c = search needs
 
 returns-3 : tie.Need-returns-3
-returns-3 c =
-    let a = c .before .before .before .before .args in
-    let given = c .before .before .before .before .pre in
-    let if1 = c .before .before .before .if1 in
-    out-hit (a .n) (a .leaders .now) (a .counts .now) (given .0) (a .t) (given .1) (if1 .left) (c .before .if2 .left)
+returns-3 c = out-hit (c .before .before .before .before .pre) (c .before .before .before .if1 .left) (c .before .if2 .left)
 
 pub count-out-spec : {M : Type 1} → statement M
 count-out-spec =

@@ -1,9 +1,9 @@
 -- `linking::relink` meets its contract. A piece without a leader counts for every group that it names, so one more for the new target and one less for the old
 -- match again; the part lent from 4P gives the whole list back. Assumes nothing.
+use borrow.Author.Needs.{needs}
 use native.Mathlib.Omega.{arith}
 use Prim.Native.Nat.{_+_, _*_}
-use borrow.Author.Needs.{needs}
-use Rattle.editing.specs.Relink.{labelled-on, old-enough, relinked, part-set}
+use Rattle.editing.specs.Relink.{old-counted, relinked}
 use Rattle.linking.proofs.relink.Statement.{statement}
 use Rattle.linking.proofs.relink.Tie as tie
 
@@ -20,10 +20,17 @@ slice-read-old : tie.Need-slice-read-old
 slice-read-old c = search needs
 
 cast-old : tie.Need-cast-old
-cast-old c = let a = c .before .before .before .before .args in omega (arith, c .slice-known3 .given (4 * a .p + a .k))
+cast-old c =
+    let lent = c .before .before .before .before .args in
+    omega (arith, c .slice-known3 .given (4 * lent .p + lent .k))
 
-count-in-requires : tie.Need-count-in-requires
-count-in-requires c κs = search needs
+cast-none : tie.Need-cast-none
+cast-none c = search needs
+
+add-link-requires : tie.Need-add-link-requires
+add-link-requires c κs =
+    let given = c .before .before .before .before .before .pre in
+    record { labelled = given .labelled; room = λ l h. omega (arith, given .few l h) }
 
 mul-put-link : tie.Need-mul-put-link
 mul-put-link c = search needs
@@ -42,14 +49,9 @@ put-link-requires c κs = search needs
 
 count-out-requires : tie.Need-count-out-requires
 count-out-requires c κs =
-    let more = c .before .before .before .before .before .before .before .count-in in
-    let given = c .before .before .before .before .before .before .before .before .before .before .before .before .before .pre in
-    let a = c .before .before .before .before .before .before .before .before .before .before .before .before .before .args in (
-      labelled-on (a .n) (a .links .now) (a .leaders .now) (a .counts .now) (4 * a .p + a .k) (a .t) given (more .last .1 .1 .0)
-          (more .ensures .size),
-      old-enough (a .n) (a .links .now) (a .leaders .now) (a .counts .now) (4 * a .p + a .k) (a .t) given (more .last .1 .1 .0)
-          (more .ensures),
-    )
+    let begun = c .before .before .before .before .before .before .before .before .before .before .before .before .before in
+    let more = c .before .before .before .before .before .before .before .add-link in
+    old-counted (begun .pre) (more .ensures .at (4 * begun .args .p + begun .args .k) (begun .pre .bare))
 
 same-length : tie.Need-same-length
 same-length c = search needs
@@ -59,14 +61,13 @@ same-length-2 c = search needs
 
 returns : tie.Need-returns
 returns c =
-    let given = c .before .before .before .before .before .before .before .before .before .before .before .before .before .before .before .before .pre in
-    let more = c .before .before .before .before .before .before .before .before .before .before .count-in in
-    let a = c .before .before .before .before .before .before .before .before .before .before .before .before .before .before .before .before .args in
-    let less = c .before .before .count-out in
+    let begun = c .before .before .before .before .before .before .before .before .before .before .before .before .before .before .before .before in
+    let more = c .before .before .before .before .before .before .before .before .before .before .add-link in
     let put = c .before .before .before .before .before .before .put-link in
-    relinked (a .n) (a .links .now) (a .leaders .now) (a .counts .now) (4 * a .p + a .k) (a .t) given _ (more .last .1 .1 .0) (less .last .1 .1 .0)
-    (part-set (a .links .now) _ (4 * a .p) (a .k) (a .t) (omega (arith, given .inside, given .links-n)) (put .ensures)) (more .ensures)
-    (less .ensures)
+    let less = c .before .before .count-out in
+    let at = 4 * begun .args .p in
+    let k = begun .args .k in
+    relinked at k (begun .pre) (more .ensures .at (at + k) (begun .pre .bare)) (put .ensures) (less .ensures)
 
 pub relink-spec : {M : Type 1} → statement M
 relink-spec =
@@ -77,7 +78,8 @@ relink-spec =
     mul-old
     slice-read-old
     cast-old
-    count-in-requires
+    cast-none
+    add-link-requires
     mul-put-link
     sub-put-link
     part-put-link-start

@@ -4,13 +4,14 @@ use mathlib.Core.List.{List}
 use mathlib.Core.Logic.{⊎-elim}
 use Prim.Native.Nat.{ℕ, pred, _≤_, _<_}
 use native.Mathlib.Omega.{arith}
+use Rattle.rules.specs.Lists.{_!_}
 use Rattle.laws.specs.Words.{trans}
-use Rattle.paths.specs.Ground.{Ground, _!_}
+use Rattle.laws.specs.Numbers.{eq-or, lt-or}
+use Rattle.paths.specs.Ground.{Ground}
 use Rattle.paths.specs.Search.{Standing, Regions, Invariant}
-use Rattle.paths.specs.Tools.{eq-or, lt-or}
 use Rattle.paths.specs.Runs.{back-to}
 
-module _ (g : Ground) (old : List ℕ) (root : ℕ) (s : Regions) (size blocks stand : ℕ) (I : Invariant g old root s size blocks stand) (live : 0 < size)
+module _ {g : Ground} {old : List ℕ} {root : ℕ} {s : Regions} {size blocks stand : ℕ} (I : Invariant g old root s size blocks stand) (live : 0 < size)
     (full : s .next ! (s .stack ! stand) ≡ 4) (inner : s .starts ! pred blocks ≡ stand → ⊥) where
   L : Standing g (s .next) (s .stack) (s .starts) root size blocks stand
   L = I .live live
@@ -18,7 +19,10 @@ module _ (g : Ground) (old : List ℕ) (root : ℕ) (s : Regions) (size blocks s
   apart : (i : ℕ) → i < blocks → s .starts ! i < stand
   apart i lt =
       let d : s .starts ! i ≤ s .starts ! pred blocks =
-      ⊎-elim (λ h. omega (arith, I .base .bounds .mono i (pred blocks) h (omega arith))) (λ h. let e : i ≡ pred blocks = omega arith in omega (arith, ap (λ (m : ℕ). s .starts ! m) e)) (lt-or i (pred blocks))
+      ⊎-elim
+      (λ h. omega (arith, I .base .bounds .mono i (pred blocks) h (omega arith)))
+      (λ h. let e : i ≡ pred blocks = omega arith in omega (arith, ap (λ (m : ℕ). s .starts ! m) e))
+      (lt-or i (pred blocks))
       in
       let u : s .starts ! pred blocks ≤ stand = L .stand-in (pred blocks) (omega arith) in
       ⊎-elim (λ h. omega arith) (λ h. absurd (inner (omega arith))) (lt-or (s .starts ! pred blocks) stand)

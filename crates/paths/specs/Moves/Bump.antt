@@ -5,14 +5,16 @@ use mathlib.Core.Logic.{⊎-elim}
 use Prim.Native.Nat.{ℕ, suc, _≤_, _<_}
 use native.Mathlib.Omega.{arith}
 use lib.ListN.{length, set, length-set}
-use Rattle.paths.specs.Ground.{Ground, _!_}
+use lib.Seq.{getD-set-other}
+use Rattle.rules.specs.Lists.{_!_}
+use Rattle.laws.specs.Numbers.{lt-or, set-cases}
+use Rattle.paths.specs.Ground.{Ground}
 use Rattle.paths.specs.Search.{Regions, Invariant}
-use Rattle.paths.specs.Tools.{lt-or, set-other, set-cases}
 
 abbrev pub bumped : Regions → ℕ → Regions
 bumped s v = record { marks = s .marks; next = set (s .next) v (suc (s .next ! v)); leaders = s .leaders; stack = s .stack; starts = s .starts; parents = s .parents }
 
-module _ (g : Ground) (old : List ℕ) (root : ℕ) (s : Regions) (size blocks stand : ℕ) (I : Invariant g old root s size blocks stand) (q : ℕ) (q-lt : q < size)
+module _ {g : Ground} {old : List ℕ} {root : ℕ} {s : Regions} {size blocks stand : ℕ} (I : Invariant g old root s size blocks stand) (q : ℕ) (q-lt : q < size)
     (more : s .next ! (s .stack ! q) < 4)
     (good : g .at (s .stack ! q) (s .next ! (s .stack ! q)) < g .n → g .state (g .at (s .stack ! q) (s .next ! (s .stack ! q))) ≡ g .class
     → (i : ℕ) → i < blocks → s .starts ! i ≤ q → s .starts ! i < s .marks ! (g .at (s .stack ! q) (s .next ! (s .stack ! q)))) where
@@ -24,7 +26,7 @@ module _ (g : Ground) (old : List ℕ) (root : ℕ) (s : Regions) (size blocks s
       ⊎-elim
       (λ w. absurd (omega (arith, ap (λ (u : ℕ). s .next ! u) (w .0))))
       (λ w. w .1 ∙ e)
-      (set-cases (s .next) (s .stack ! q) (suc (s .next ! (s .stack ! q))) x v-lt)
+      (set-cases (s .next) (s .stack ! q) (suc (s .next ! (s .stack ! q))) x 0 v-lt)
 
   inj : (p : ℕ) → p < size → s .stack ! p ≡ s .stack ! q → p ≡ q
   inj p lt e = omega (arith, I .base .stack .stack-marks p lt, I .base .stack .stack-marks q q-lt, ap (λ (u : ℕ). s .marks ! u) e)
@@ -45,13 +47,20 @@ module _ (g : Ground) (old : List ℕ) (root : ℕ) (s : Regions) (size blocks s
       → (i : ℕ) → i < blocks → s .starts ! i ≤ q → s .starts ! i < s .marks ! (g .at (s .stack ! q) j)) (sym ej) good))
       (lt-or j (s .next ! (s .stack ! q))))
       (λ w. I .base .explored .seen p lt j (omega (arith, w .1)))
-      (set-cases (s .next) (s .stack ! q) (suc (s .next ! (s .stack ! q))) (s .stack ! p) v-lt)
+      (set-cases (s .next) (s .stack ! q) (suc (s .next ! (s .stack ! q))) (s .stack ! p) 0 v-lt)
 
   pub bump : Invariant g old root (bumped s (s .stack ! q)) size blocks stand
   bump = record {
     base = record {
       small = I .base .small;
-      sizes = record { marks-n = I .base .sizes .marks-n; next-n = simp length-set (I .base .sizes .next-n); leaders-n = I .base .sizes .leaders-n; stack-n = I .base .sizes .stack-n; starts-n = I .base .sizes .starts-n; parents-n = I .base .sizes .parents-n };
+      sizes = record {
+        marks-n = I .base .sizes .marks-n;
+        next-n = simp length-set (I .base .sizes .next-n);
+        leaders-n = I .base .sizes .leaders-n;
+        stack-n = I .base .sizes .stack-n;
+        starts-n = I .base .sizes .starts-n;
+        parents-n = I .base .sizes .parents-n;
+      };
       stack = I .base .stack;
       bounds = I .base .bounds;
       trail = record {
@@ -65,9 +74,10 @@ module _ (g : Ground) (old : List ℕ) (root : ℕ) (s : Regions) (size blocks s
       explored = record {
         four = λ v lt.
             ⊎-elim (λ w. omega (arith, w .1)) (λ w. omega (arith, w .1, I .base .explored .four v lt))
-            (set-cases (s .next) (s .stack ! q) (suc (s .next ! (s .stack ! q))) v v-lt);
+            (set-cases (s .next) (s .stack ! q) (suc (s .next ! (s .stack ! q))) v 0 v-lt);
         fresh = λ v lt z.
-            set-other (s .next) (s .stack ! q) v (suc (s .next ! (s .stack ! q))) (λ e. omega (arith, I .base .stack .stack-marks q q-lt, ap (λ (u : ℕ). s .marks ! u) e)) ∙ I .base .explored .fresh v lt z;
+            getD-set-other (s .next) (s .stack ! q) v (suc (s .next ! (s .stack ! q))) 0
+            (λ e. omega (arith, I .base .stack .stack-marks q q-lt, ap (λ (u : ℕ). s .marks ! u) e)) ∙ I .base .explored .fresh v lt z;
         seen = seen;
       };
       ends = I .base .ends;

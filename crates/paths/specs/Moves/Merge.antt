@@ -4,13 +4,14 @@ use mathlib.Core.List.{List}
 use mathlib.Core.Logic.{⊎-elim}
 use Prim.Native.Nat.{ℕ, suc, pred, _≤_, _<_}
 use native.Mathlib.Omega.{arith}
+use Rattle.rules.specs.Lists.{_!_}
 use Rattle.laws.specs.Words.{trans}
-use Rattle.paths.specs.Ground.{Ground, Way, _!_}
+use Rattle.laws.specs.Numbers.{lt-or}
+use Rattle.paths.specs.Ground.{Ground, Way}
 use Rattle.paths.specs.Search.{Trail, Regions, Invariant}
-use Rattle.paths.specs.Tools.{lt-or}
 use Rattle.paths.specs.Runs.{up-to}
 
-module _ (g : Ground) (old : List ℕ) (root : ℕ) (s : Regions) (size blocks stand : ℕ) (I : Invariant g old root s size blocks stand) (live : 0 < size) (t : ℕ) (t-lt : t < size)
+module _ {g : Ground} {old : List ℕ} {root : ℕ} {s : Regions} {size blocks stand : ℕ} (I : Invariant g old root s size blocks stand) (live : 0 < size) (t : ℕ) (t-lt : t < size)
     (hit : Way g (s .stack ! stand) (s .stack ! t)) (b : ℕ) (b-pos : 0 < b) (b-le : b ≤ blocks) (below : s .starts ! pred b ≤ t)
     (above : (i : ℕ) → b ≤ i → i < blocks → t < s .starts ! i) where
   T : Trail g (s .next) (s .stack) (s .starts) (s .parents) size blocks

@@ -6,10 +6,11 @@ use Prim.Native.Nat.{ℕ, suc, pred, _≤_, _<_}
 use native.Mathlib.Omega.{arith}
 use lib.ListN.{length}
 use Rattle.rules.specs.Reach.{here}
+use Rattle.rules.specs.Lists.{_!_}
 use Rattle.laws.specs.Words.{trans}
-use Rattle.paths.specs.Ground.{Ground, Way, Leads, Closed, _!_, way-at}
-use Rattle.paths.specs.Search.{finished, sign, Stack, Starts, Trail, Explored, Ends, Standing, Regions, Invariant}
-use Rattle.paths.specs.Tools.{eq-or, lt-or}
+use Rattle.laws.specs.Numbers.{eq-or, lt-or}
+use Rattle.paths.specs.Ground.{Ground, Way, Leads, OneWay, way-at}
+use Rattle.paths.specs.Search.{finishedMark, MarksClosed, sign, Stack, Starts, Trail, Explored, Ends, Standing, Regions, Invariant}
 use Rattle.paths.specs.Sums.{count-le, count-same}
 use Rattle.paths.specs.Runs.{up-to, back-to}
 use Rattle.paths.specs.Stays.{kept-in}
@@ -21,19 +22,19 @@ popped s marks leaders = record { marks = marks; next = s .next; leaders = leade
 pub record Closing (g : Ground) (marks leaders stack : List ℕ) (stand size low : ℕ) (marks′ leaders′ : List ℕ) : Type 0 where
   pub marks-len : length marks′ ≡ length marks
   pub leaders-len : length leaders′ ≡ length leaders
-  pub hit : (q : ℕ) → stand ≤ q → q < size → (marks′ ! (stack ! q) ≡ finished) × (leaders′ ! (stack ! q) ≡ low)
+  pub hit : (q : ℕ) → stand ≤ q → q < size → (marks′ ! (stack ! q) ≡ finishedMark) × (leaders′ ! (stack ! q) ≡ low)
   pub miss : (u : ℕ) → u < g .n → ((q : ℕ) → stand ≤ q → q < size → stack ! q ≡ u → ⊥) → (marks′ ! u ≡ marks ! u) × (leaders′ ! u ≡ leaders ! u)
 
-pub record Lowest (stack : List ℕ) (stand size low : ℕ) : Type 0 where
+pub record LowestOnStack (stack : List ℕ) (stand size low : ℕ) : Type 0 where
   pub place : ℕ
   pub from-stand : stand ≤ place
   pub to-size : place < size
   pub is : stack ! place ≡ low
   pub least : (q : ℕ) → stand ≤ q → q < size → low ≤ stack ! q
 
-module _ (g : Ground) (C : Closed g) (old : List ℕ) (root : ℕ) (s : Regions) (size blocks stand : ℕ) (I : Invariant g old root s size blocks stand) (live : 0 < size)
-    (full : s .next ! (s .stack ! stand) ≡ 4) (starts : s .starts ! pred blocks ≡ stand) (low : ℕ) (lowest : Lowest (s .stack) stand size low)
-    (marks′ leaders′ : List ℕ) (did : Closing g (s .marks) (s .leaders) (s .stack) stand size low marks′ leaders′) where
+module _ {g : Ground} (C : OneWay g) {old : List ℕ} {root : ℕ} {s : Regions} {size blocks stand : ℕ} (I : Invariant g old root s size blocks stand) (live : 0 < size)
+    (full : s .next ! (s .stack ! stand) ≡ 4) (starts : s .starts ! pred blocks ≡ stand) {low : ℕ} (lowest : LowestOnStack (s .stack) stand size low)
+    {marks′ leaders′ : List ℕ} (did : Closing g (s .marks) (s .leaders) (s .stack) stand size low marks′ leaders′) where
   L : Standing g (s .next) (s .stack) (s .starts) root size blocks stand
   L = I .live live
 
@@ -46,8 +47,8 @@ module _ (g : Ground) (C : Closed g) (old : List ℕ) (root : ℕ) (s : Regions)
   abbrev Out : ℕ → Type 0
   Out u = (q : ℕ) → stand ≤ q → q < size → s .stack ! q ≡ u → ⊥
 
-  pos : (p q : ℕ) → p < size → q < size → s .stack ! p ≡ s .stack ! q → p ≡ q
-  pos p q a b e = omega (arith, I .base .stack .stack-marks p a, I .base .stack .stack-marks q b, ap (λ (u : ℕ). s .marks ! u) e)
+  position : (p q : ℕ) → p < size → q < size → s .stack ! p ≡ s .stack ! q → p ≡ q
+  position p q a b e = omega (arith, I .base .stack .stack-marks p a, I .base .stack .stack-marks q b, ap (λ (u : ℕ). s .marks ! u) e)
 
   low-or : (u : ℕ) → u < g .n → In u ⊎ Out u
   low-or u lt =
@@ -61,10 +62,10 @@ module _ (g : Ground) (C : Closed g) (old : List ℕ) (root : ℕ) (s : Regions)
       (λ h. inr (λ q a b e. omega (arith, o .1, I .base .stack .stack-marks q b, ap (λ (u : ℕ). s .marks ! u) e)))
       (λ h. inl (o .0, h, o .2, o .3))
       (lt-or (o .0) stand))
-      (eq-or (s .marks ! u) finished))
+      (eq-or (s .marks ! u) finishedMark))
       (eq-or (s .marks ! u) 0)
 
-  in-marks : (u : ℕ) → In u → marks′ ! u ≡ finished
+  in-marks : (u : ℕ) → In u → marks′ ! u ≡ finishedMark
   in-marks u i = ap (λ (x : ℕ). marks′ ! x) (sym (i .3)) ∙ did .hit (i .0) (i .1) (i .2) .0
 
   in-leaders : (u : ℕ) → In u → leaders′ ! u ≡ low
@@ -73,16 +74,16 @@ module _ (g : Ground) (C : Closed g) (old : List ℕ) (root : ℕ) (s : Regions)
   in-old : (u : ℕ) → (i : In u) → s .marks ! u ≡ suc (i .0)
   in-old u i = ap (λ (x : ℕ). s .marks ! x) (sym (i .3)) ∙ I .base .stack .stack-marks (i .0) (i .2)
 
-  in-not-fin : (u : ℕ) → In u → s .marks ! u ≡ finished → ⊥
+  in-not-fin : (u : ℕ) → In u → s .marks ! u ≡ finishedMark → ⊥
   in-not-fin u i e = omega (arith, in-old u i, i .2, I .base .small, I .base .stack .few, count-le (s .marks) (g .n))
 
   out-marks : (u : ℕ) → u < g .n → Out u → marks′ ! u ≡ s .marks ! u
   out-marks u lt o = did .miss u lt o .0
 
   below-out : (q : ℕ) → q < stand → Out (s .stack ! q)
-  below-out q lt p a b e = omega (arith, pos p q b (omega (arith, L .stand-lt)) e)
+  below-out q lt p a b e = omega (arith, position p q b (omega (arith, L .stand-lt)) e)
 
-  fin-up : (u : ℕ) → u < g .n → s .marks ! u ≡ finished → marks′ ! u ≡ finished
+  fin-up : (u : ℕ) → u < g .n → s .marks ! u ≡ finishedMark → marks′ ! u ≡ finishedMark
   fin-up u lt e = ⊎-elim (λ i. in-marks u i) (λ o. out-marks u lt o ∙ e) (low-or u lt)
 
   zero-down : (u : ℕ) → u < g .n → marks′ ! u ≡ 0 → s .marks ! u ≡ 0
@@ -95,7 +96,8 @@ module _ (g : Ground) (C : Closed g) (old : List ℕ) (root : ℕ) (s : Regions)
   stack : Stack g marks′ (s .stack) stand
   stack = record {
     stack-lt = λ q lt. I .base .stack .stack-lt q (omega (arith, L .stand-lt));
-    stack-marks = λ q lt. out-marks (s .stack ! q) (I .base .stack .stack-lt q (omega (arith, L .stand-lt))) (below-out q lt) ∙ I .base .stack .stack-marks q (omega (arith, L .stand-lt));
+    stack-marks = λ q lt.
+        out-marks (s .stack ! q) (I .base .stack .stack-lt q (omega (arith, L .stand-lt))) (below-out q lt) ∙ I .base .stack .stack-marks q (omega (arith, L .stand-lt));
     marks-stack = λ v lt a b.
         ⊎-elim
         (λ i. absurd (b (in-marks v i)))
@@ -155,21 +157,23 @@ module _ (g : Ground) (C : Closed g) (old : List ℕ) (root : ℕ) (s : Regions)
   all-four : (q : ℕ) → stand ≤ q → q < size → s .next ! (s .stack ! q) ≡ 4
   all-four q a b = ⊎-elim (λ e. ap (λ (m : ℕ). s .next ! (s .stack ! m)) e ∙ full) (λ f. L .stand-full q (omega (arith, f)) b) (eq-or q stand)
 
-  block-closed : (q : ℕ) → stand ≤ q → q < size → (j : ℕ) → j < 4 → g .at (s .stack ! q) j < g .n → g .state (g .at (s .stack ! q) j) ≡ g .class → marks′ ! (g .at (s .stack ! q) j) ≡ finished
+  block-closed : (q : ℕ) → stand ≤ q → q < size → (j : ℕ) → j < 4 → g .at (s .stack ! q) j < g .n → g .state (g .at (s .stack ! q) j) ≡ g .class
+      → marks′ ! (g .at (s .stack ! q) j) ≡ finishedMark
   block-closed q a b j u v w =
       let t : ℕ = g .at (s .stack ! q) j in
-      let o : s .starts ! pred blocks < s .marks ! t = I .base .explored .seen q b j (omega (arith, all-four q a b)) v w (pred blocks) (omega (arith, blocks-pos)) (omega (arith, starts)) in
+      let o : s .starts ! pred blocks < s .marks ! t =
+      I .base .explored .seen q b j (omega (arith, all-four q a b)) v w (pred blocks) (omega (arith, blocks-pos)) (omega (arith, starts)) in
       ⊎-elim
       (λ f. fin-up t v f)
       (λ nf.
       let r = I .base .stack .marks-stack t v (λ z. omega (arith, z, o)) nf in
       in-marks t ((r .0, omega (arith, r .1, o, starts), r .2, r .3)))
-      (eq-or (s .marks ! t) finished)
+      (eq-or (s .marks ! t) finishedMark)
 
-  closed : (x : ℕ) → x < g .n → marks′ ! x ≡ finished → (j : ℕ) → j < 4 → g .at x j < g .n → g .state (g .at x j) ≡ g .class → marks′ ! (g .at x j) ≡ finished
+  closed : MarksClosed g marks′
   closed x lt e j u =
       ⊎-elim
-      (λ i. subst (λ (x : ℕ). g .at x j < g .n → g .state (g .at x j) ≡ g .class → marks′ ! (g .at x j) ≡ finished) (i .3) (block-closed (i .0) (i .1) (i .2) j u))
+      (λ i. subst (λ (x : ℕ). g .at x j < g .n → g .state (g .at x j) ≡ g .class → marks′ ! (g .at x j) ≡ finishedMark) (i .3) (block-closed (i .0) (i .1) (i .2) j u))
       (λ o v w. fin-up (g .at x j) v (I .base .ends .closed x lt (sym (out-marks x lt o) ∙ e) j u v w))
       (low-or x lt)
 
@@ -185,13 +189,13 @@ module _ (g : Ground) (C : Closed g) (old : List ℕ) (root : ℕ) (s : Regions)
     lowest = λ y r r′.
         let lt : s .stack ! p < g .n = I .base .stack .stack-lt p b in
         let cx : g .state (s .stack ! p) ≡ g .class = I .base .stack .inside (s .stack ! p) lt (λ z. omega (arith, z, I .base .stack .stack-marks p b)) in
-        let k = kept-in g marks′ C closed (s .stack ! p) cx r r′ lt cx (did .hit p a b .0) in
+        let k = kept-in marks′ C closed cx r r′ lt cx (did .hit p a b .0) in
         ⊎-elim
         (λ i. omega (arith, lowest .least (i .0) (i .1) (i .2), i .3))
         (λ o.
-        let yf : s .marks ! y ≡ finished = sym (out-marks y (k .0) o) ∙ k .1 in
+        let yf : s .marks ! y ≡ finishedMark = sym (out-marks y (k .0) o) ∙ k .1 in
         let cy : g .state y ≡ g .class = I .base .stack .inside y (k .0) (λ z. omega (arith, z, yf)) in
-        let m = kept-in g (s .marks) C (I .base .ends .closed) (s .stack ! p) cx r′ here (k .0) cy yf in
+        let m = kept-in (s .marks) C (I .base .ends .closed) cx r′ here (k .0) cy yf in
         absurd (in-not-fin (s .stack ! p) ((p, a, b, refl)) (m .1)))
         (low-or y (k .0));
   }

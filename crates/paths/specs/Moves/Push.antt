@@ -1,31 +1,55 @@
 -- An unseen piece is pushed, as a block of its own.
 use mathlib.Core.Path.{_≡_, refl, sym, _∙_, ap, subst}
 use mathlib.Core.List.{List}
-use mathlib.Core.Logic.{_⊎_, ⊎-elim}
+use mathlib.Core.Logic.{_⊎_, inl, inr, ⊎-elim}
 use Prim.Native.Nat.{ℕ, suc, pred, _≤_, _<_}
 use native.Mathlib.Omega.{arith}
 use lib.ListN.{length, set, length-set}
+use lib.Seq.{getD-set-same, getD-set-other}
 use Rattle.rules.specs.Reach.{here}
+use Rattle.rules.specs.Lists.{_!_}
 use Rattle.laws.specs.Words.{trans}
-use Rattle.paths.specs.Ground.{Ground, Way, _!_, way-at}
-use Rattle.paths.specs.Search.{finished, sign, Stack, Starts, Trail, Explored, Ends, Standing, Regions, Steady, Invariant}
-use Rattle.paths.specs.Tools.{lt-or, set-same, set-other, set-cases, ext-cases}
+use Rattle.laws.specs.Numbers.{lt-or, set-cases}
+use Rattle.paths.specs.Ground.{Ground, Way, way-at}
+use Rattle.paths.specs.Search.{finishedMark, sign, Stack, Starts, Trail, Explored, Ends, Standing, Regions, Steady, Invariant}
 use Rattle.paths.specs.Sums.{count-lt, count-more}
 
-abbrev pub pushed : Regions → ℕ → ℕ → ℕ → ℕ → Regions
-pushed s size blocks stand y = record { marks = set (s .marks) y (suc size); next = s .next; leaders = s .leaders; stack = set (s .stack) size y; starts = set (s .starts) blocks size; parents = set (s .parents) size stand }
+-- an entry of a list that grows at its end
+end-cases : (l : List ℕ) (m x : ℕ) → m < length l → (q : ℕ) → q < suc m → ((q < m) × (set l m x ! q ≡ l ! q)) ⊎ ((q ≡ m) × (set l m x ! q ≡ x))
+end-cases l m x h q lt =
+    ⊎-elim
+    (λ e. inr e)
+    (λ e. inl (omega (arith, e .0), e .1))
+    (set-cases l m x q 0 h)
 
-module _ (g : Ground) (old : List ℕ) (root : ℕ) (s : Regions) (size blocks stand : ℕ) (B : Steady g old root s size blocks) (lv : 0 < size → Standing g (s .next) (s .stack) (s .starts) root size blocks stand) (rooted : 0 < size → s .marks ! root ≡ 0 → ⊥) (start : size ≡ 0 → blocks ≡ 0)
+abbrev pub pushed : Regions → ℕ → ℕ → ℕ → ℕ → Regions
+pushed s size blocks stand y = record {
+  marks = set (s .marks) y (suc size);
+  next = s .next;
+  leaders = s .leaders;
+  stack = set (s .stack) size y;
+  starts = set (s .starts) blocks size;
+  parents = set (s .parents) size stand;
+}
+
+-- a piece is unseen: the stack has room for one more
+pub stack-room : {g : Ground} {marks stack : List ℕ} {size : ℕ} → Stack g marks stack size → (y : ℕ) → y < g .n → marks ! y ≡ 0 → size < g .n
+stack-room {g} {marks} S y lt e = omega (arith, S .few, count-lt marks (g .n) y lt e)
+
+-- no more blocks than pieces
+pub blocks-few : {starts : List ℕ} {size blocks : ℕ} → Starts starts size blocks → blocks ≤ size
+blocks-few {blocks = blocks} S =
+    ⊎-elim (λ h. omega (arith, S .rank (pred blocks) (omega arith), S .below (pred blocks) (omega arith))) (λ h. omega arith) (lt-or 0 blocks)
+
+module _ {g : Ground} {old : List ℕ} {root : ℕ} {s : Regions} {size blocks stand : ℕ} (B : Steady g old root s size blocks)
+    (lv : 0 < size → Standing g (s .next) (s .stack) (s .starts) root size blocks stand) (rooted : 0 < size → s .marks ! root ≡ 0 → ⊥)
     (y : ℕ) (y-lt : y < g .n) (y-in : g .state y ≡ g .class) (y-new : s .marks ! y ≡ 0)
     (hit : 0 < size → Way g (s .stack ! stand) y) (begin : size ≡ 0 → y ≡ root) (ahead : stand ≤ size) where
-  s′ : Regions
-  s′ = pushed s size blocks stand y
+  size-lt : size < g .n
+  size-lt = stack-room (B .stack) y y-lt y-new
 
-  pub size-lt : size < g .n
-  size-lt = omega (arith, B .stack .few, count-lt (s .marks) (g .n) y y-lt y-new)
-
-  pub blocks-le : blocks ≤ size
-  blocks-le = ⊎-elim (λ h. omega (arith, B .bounds .rank (pred blocks) (omega arith), B .bounds .below (pred blocks) (omega arith))) (λ h. omega arith) (lt-or 0 blocks)
+  blocks-le : blocks ≤ size
+  blocks-le = blocks-few (B .bounds)
 
   size-stack : size < length (s .stack)
   size-stack = omega (arith, size-lt, B .sizes .stack-n)
@@ -40,35 +64,35 @@ module _ (g : Ground) (old : List ℕ) (root : ℕ) (s : Regions) (size blocks s
   y-marks = omega (arith, y-lt, B .sizes .marks-n)
 
   stack-old : (q : ℕ) → q < size → set (s .stack) size y ! q ≡ s .stack ! q
-  stack-old q lt = set-other (s .stack) size q y (λ e. omega arith)
+  stack-old q lt = getD-set-other (s .stack) size q y 0 (λ e. omega arith)
 
   stack-new : set (s .stack) size y ! size ≡ y
-  stack-new = set-same (s .stack) size y size-stack
+  stack-new = getD-set-same (s .stack) size y 0 size-stack
 
   starts-old : (q : ℕ) → q < blocks → set (s .starts) blocks size ! q ≡ s .starts ! q
-  starts-old q lt = set-other (s .starts) blocks q size (λ e. omega arith)
+  starts-old q lt = getD-set-other (s .starts) blocks q size 0 (λ e. omega arith)
 
   starts-new : set (s .starts) blocks size ! blocks ≡ size
-  starts-new = set-same (s .starts) blocks size blocks-starts
+  starts-new = getD-set-same (s .starts) blocks size 0 blocks-starts
 
   -- a block start is old, or the new one
   starts-at : (i : ℕ) → i < suc blocks → ((i < blocks) × (set (s .starts) blocks size ! i ≡ s .starts ! i)) ⊎ ((i ≡ blocks) × (set (s .starts) blocks size ! i ≡ size))
-  starts-at = ext-cases (s .starts) blocks size blocks-starts
+  starts-at = end-cases (s .starts) blocks size blocks-starts
 
   stack-at : (i : ℕ) → i < suc size → ((i < size) × (set (s .stack) size y ! i ≡ s .stack ! i)) ⊎ ((i ≡ size) × (set (s .stack) size y ! i ≡ y))
-  stack-at = ext-cases (s .stack) size y size-stack
+  stack-at = end-cases (s .stack) size y size-stack
 
   parents-at : (i : ℕ) → i < suc size → ((i < size) × (set (s .parents) size stand ! i ≡ s .parents ! i)) ⊎ ((i ≡ size) × (set (s .parents) size stand ! i ≡ stand))
-  parents-at = ext-cases (s .parents) size stand size-parents
+  parents-at = end-cases (s .parents) size stand size-parents
 
   marks-new : set (s .marks) y (suc size) ! y ≡ suc size
-  marks-new = set-same (s .marks) y (suc size) y-marks
+  marks-new = getD-set-same (s .marks) y (suc size) 0 y-marks
 
   marks-old : (v : ℕ) → (v ≡ y → ⊥) → set (s .marks) y (suc size) ! v ≡ s .marks ! v
-  marks-old v f = set-other (s .marks) y v (suc size) f
+  marks-old v f = getD-set-other (s .marks) y v (suc size) 0 f
 
   marks-at : (v : ℕ) → ((v ≡ y) × (set (s .marks) y (suc size) ! v ≡ suc size)) ⊎ ((v ≡ y → ⊥) × (set (s .marks) y (suc size) ! v ≡ s .marks ! v))
-  marks-at v = set-cases (s .marks) y (suc size) v y-marks
+  marks-at v = set-cases (s .marks) y (suc size) v 0 y-marks
 
   not-y : (q : ℕ) → q < size → s .stack ! q ≡ y → ⊥
   not-y q lt e = omega (arith, B .stack .stack-marks q lt, ap (λ (u : ℕ). s .marks ! u) e)
@@ -124,7 +148,8 @@ module _ (g : Ground) (old : List ℕ) (root : ℕ) (s : Regions) (size blocks s
   trail : Trail g (s .next) (set (s .stack) size y) (set (s .starts) blocks size) (set (s .parents) size stand) (suc size) (suc blocks)
   trail = record {
     par-le = λ q lt. ⊎-elim (λ w. omega (arith, w .1, B .trail .par-le q (w .0))) (λ w. omega (arith, w .1, ahead)) (parents-at q lt);
-    par-lt = λ q lt pos. ⊎-elim (λ w. omega (arith, w .1, B .trail .par-lt q (w .0) pos)) (λ w. omega (arith, w .1, lv (omega arith) .stand-lt)) (parents-at q lt);
+    par-lt = λ q lt pos.
+        ⊎-elim (λ w. omega (arith, w .1, B .trail .par-lt q (w .0) pos)) (λ w. omega (arith, w .1, lv (omega arith) .stand-lt)) (parents-at q lt);
     par-in = λ q lt pos i u v.
         ⊎-elim
         (λ w. ⊎-elim
@@ -187,10 +212,10 @@ module _ (g : Ground) (old : List ℕ) (root : ℕ) (s : Regions) (size blocks s
     seen = seen-at;
   }
 
-  fin-old : (v : ℕ) → set (s .marks) y (suc size) ! v ≡ finished → s .marks ! v ≡ finished
+  fin-old : (v : ℕ) → set (s .marks) y (suc size) ! v ≡ finishedMark → s .marks ! v ≡ finishedMark
   fin-old v e = ⊎-elim (λ w. absurd (omega (arith, w .1, size-lt, B .small))) (λ w. sym (w .1) ∙ e) (marks-at v)
 
-  fin-new : (v : ℕ) → s .marks ! v ≡ finished → set (s .marks) y (suc size) ! v ≡ finished
+  fin-new : (v : ℕ) → s .marks ! v ≡ finishedMark → set (s .marks) y (suc size) ! v ≡ finishedMark
   fin-new v e = ⊎-elim (λ w. absurd (omega (arith, ap (λ (u : ℕ). s .marks ! u) (w .0)))) (λ w. w .1 ∙ e) (marks-at v)
 
   ends : Ends g old (set (s .marks) y (suc size)) (s .leaders) root
@@ -230,5 +255,9 @@ module _ (g : Ground) (old : List ℕ) (root : ℕ) (s : Regions) (size blocks s
           (λ w. w .1 ∙ begin (sym (w .0)))
           (stack-at 0 (omega arith));
     };
-    rooted = λ e. ⊎-elim (λ w. omega (arith, w .1)) (λ w. ⊎-elim (λ h. rooted h (sym (w .1) ∙ e)) (λ h. w .0 (sym (begin (omega arith)))) (lt-or 0 size)) (marks-at root);
+    rooted = λ e.
+        ⊎-elim
+        (λ w. omega (arith, w .1))
+        (λ w. ⊎-elim (λ h. rooted h (sym (w .1) ∙ e)) (λ h. w .0 (sym (begin (omega arith)))) (lt-or 0 size))
+        (marks-at root);
   }

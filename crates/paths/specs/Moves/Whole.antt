@@ -5,14 +5,15 @@ use mathlib.Core.Logic.{_⊎_, inl, inr, ⊎-elim}
 use Prim.Native.Nat.{ℕ, _<_}
 use native.Mathlib.Omega.{arith}
 use Rattle.rules.specs.Reach.{here}
-use Rattle.paths.specs.Ground.{Ground, Closed, _!_}
-use Rattle.paths.specs.Search.{finished, Regions, Sizes, Steady, Invariant}
-use Rattle.paths.specs.Tools.{eq-or}
+use Rattle.rules.specs.Lists.{_!_}
+use Rattle.laws.specs.Numbers.{eq-or}
+use Rattle.paths.specs.Ground.{Ground, OneWay}
+use Rattle.paths.specs.Search.{finishedMark, Regions, RegionsSized, Steady, Invariant}
 use Rattle.paths.specs.Search.{Calm, Visited}
 use Rattle.paths.specs.Stays.{kept-in}
 
-pub begins : (g : Ground) (s : Regions) (root : ℕ) → Sizes (g .n) s → Calm g (s .marks) (s .next) (s .leaders) → Steady g (s .marks) root s 0 0
-begins g s root Z K = record {
+pub begins : {g : Ground} {s : Regions} {root : ℕ} → RegionsSized (g .n) s → Calm g (s .marks) (s .next) (s .leaders) → Steady g (s .marks) root s 0 0
+begins Z K = record {
   small = K .small;
   sizes = Z;
   stack = record {
@@ -41,14 +42,19 @@ begins g s root Z K = record {
   ends = record { closed = K .closed; exact = K .exact; «from» = λ x lt e. inl e; kept = λ x lt e. e };
 }
 
-pub finishes : (g : Ground) → Closed g → (old : List ℕ) (s : Regions) (root blocks stand : ℕ) → root < g .n → Invariant g old root s 0 blocks stand
+pub finishes : {g : Ground} {old : List ℕ} {s : Regions} {root blocks stand : ℕ} → OneWay g → root < g .n → Invariant g old root s 0 blocks stand
     → Visited g old (s .marks) (s .next) (s .leaders) root
-finishes g C old s root blocks stand root-lt I =
-    let either : (v : ℕ) → v < g .n → (s .marks ! v ≡ 0) ⊎ (s .marks ! v ≡ finished) =
-    λ v lt. ⊎-elim (λ z. inl z) (λ nz. ⊎-elim (λ f. inr f) (λ nf. absurd (omega (arith, I .base .stack .marks-stack v lt nz nf .2))) (eq-or (s .marks ! v) finished)) (eq-or (s .marks ! v) 0)
+finishes {g} {s = s} {root = root} C root-lt I =
+    let either : (v : ℕ) → v < g .n → (s .marks ! v ≡ 0) ⊎ (s .marks ! v ≡ finishedMark) =
+    λ v lt.
+    ⊎-elim
+    (λ z. inl z)
+    (λ nz. ⊎-elim (λ f. inr f) (λ nf. absurd (omega (arith, I .base .stack .marks-stack v lt nz nf .2))) (eq-or (s .marks ! v) finishedMark))
+    (eq-or (s .marks ! v) 0)
     in
-    let root-fin : s .marks ! root ≡ finished = ⊎-elim (λ z. absurd (I .rooted z)) (λ e. e) (either root root-lt) in
-    let inside : (v : ℕ) → v < g .n → s .marks ! v ≡ finished → g .state v ≡ g .class = λ v lt e. I .base .stack .inside v lt (λ z. omega (arith, z, e)) in
+    let root-fin : s .marks ! root ≡ finishedMark = ⊎-elim (λ z. absurd (I .rooted z)) (λ e. e) (either root root-lt) in
+    let inside : (v : ℕ) → v < g .n → s .marks ! v ≡ finishedMark → g .state v ≡ g .class =
+    λ v lt e. I .base .stack .inside v lt (λ z. omega (arith, z, e)) in
     record {
       calm = record {
         small = I .base .small;
@@ -60,6 +66,6 @@ finishes g C old s root blocks stand root-lt I =
         exact = I .base .ends .exact;
       };
       kept = I .base .ends .kept;
-      reached = λ x lt cx r. kept-in g (s .marks) C (I .base .ends .closed) x cx r here root-lt (inside root root-lt root-fin) root-fin .1;
+      reached = λ x lt cx r. kept-in (s .marks) C (I .base .ends .closed) cx r here root-lt (inside root root-lt root-fin) root-fin .1;
       «only» = I .base .ends .«from»;
     }

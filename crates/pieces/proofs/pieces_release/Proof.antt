@@ -1,49 +1,19 @@
--- `pieces_release` keeps `release`'s promise: its u64 is the number of what `store::release` answers. Assumes nothing.
+-- `pieces_release` keeps `release`'s promise: its u64 is the number of what `store::release` answers, which keeps each area's length. Assumes nothing.
 use Rattle.pieces.specs.Numbers.{packs}
 use Rattle.pieces.proofs.pieces_release.Statement.{statement}
 use Rattle.pieces.proofs.pieces_release.Tie as tie
-
-release-requires : tie.Need-release-requires
-release-requires c κs = tt
-
-pack-requires : tie.Need-pack-requires
-pack-requires c κs = tt
-
-same-length : tie.Need-same-length
-same-length c = c .before .before .before .before .before .before .before .before .before .before .before .before .before .before .before .release .kept .1 .0
-
-same-length-2 : tie.Need-same-length-2
-same-length-2 c = c .before .before .before .before .before .before .before .before .before .before .before .before .before .before .before .release .kept .1 .1 .0
-
-same-length-3 : tie.Need-same-length-3
-same-length-3 c = c .before .before .before .before .before .before .before .before .before .before .before .before .before .before .before .release .kept .1 .1 .1 .0
-
-same-length-4 : tie.Need-same-length-4
-same-length-4 c = c .before .before .before .before .before .before .before .before .before .before .before .before .before .before .before .release .kept .1 .1 .1 .1 .0
-
-same-length-5 : tie.Need-same-length-5
-same-length-5 c = c .before .before .before .before .before .before .before .before .before .before .before .before .before .before .before .release .kept .1 .1 .1 .1 .1 .0
-
-same-length-6 : tie.Need-same-length-6
-same-length-6 c = c .before .before .before .before .before .before .before .before .before .before .before .before .before .before .before .release .kept .1 .1 .1 .1 .1 .1 .0
-
-same-length-7 : tie.Need-same-length-7
-same-length-7 c = c .before .before .before .before .before .before .before .before .before .before .before .before .before .before .before .release .kept .1 .1 .1 .1 .1 .1 .1 .0
-
-returns : tie.Need-returns
-returns c = packs (c .before .before .before .before .before .before .before .before .before .before .before .before .before .before .before .release .ensures) (c .pack .ensures)
 
 pub pieces-release-spec : {M : Type 1} → statement M
 pieces-release-spec =
     tie.close
     (tie.spec
-    release-requires
-    pack-requires
-    same-length
-    same-length-2
-    same-length-3
-    same-length-4
-    same-length-5
-    same-length-6
-    same-length-7
-    returns)
+    (λ c κs. tt)
+    (λ c κs. tt)
+    (λ c. search depth 0)
+    (λ c. search depth 0)
+    (λ c. search depth 0)
+    (λ c. search depth 0)
+    (λ c. search depth 0)
+    (λ c. search depth 0)
+    (λ c. search depth 0)
+    (λ c. search packs))

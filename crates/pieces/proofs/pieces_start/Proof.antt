@@ -1,41 +1,17 @@
--- `pieces_start` keeps `start`'s promise: its u64 is the number of what `store::start` answers. Assumes nothing.
+-- `pieces_start` keeps `start`'s promise: its u64 is the number of what `store::start` answers, which keeps each area's length. Assumes nothing.
 use Rattle.pieces.specs.Numbers.{packs}
 use Rattle.pieces.proofs.pieces_start.Statement.{statement}
 use Rattle.pieces.proofs.pieces_start.Tie as tie
-
-start-requires : tie.Need-start-requires
-start-requires c κs = tt
-
-pack-requires : tie.Need-pack-requires
-pack-requires c κs = tt
-
-same-length : tie.Need-same-length
-same-length c = c .before .before .before .before .before .before .before .before .before .before .before .start .kept .1 .0
-
-same-length-2 : tie.Need-same-length-2
-same-length-2 c = c .before .before .before .before .before .before .before .before .before .before .before .start .kept .1 .1 .0
-
-same-length-3 : tie.Need-same-length-3
-same-length-3 c = c .before .before .before .before .before .before .before .before .before .before .before .start .kept .1 .1 .1 .0
-
-same-length-4 : tie.Need-same-length-4
-same-length-4 c = c .before .before .before .before .before .before .before .before .before .before .before .start .kept .1 .1 .1 .1 .0
-
-same-length-5 : tie.Need-same-length-5
-same-length-5 c = c .before .before .before .before .before .before .before .before .before .before .before .start .kept .1 .1 .1 .1 .1 .0
-
-returns : tie.Need-returns
-returns c = packs (c .before .before .before .before .before .before .before .before .before .before .before .start .ensures) (c .pack .ensures)
 
 pub pieces-start-spec : {M : Type 1} → statement M
 pieces-start-spec =
     tie.close
     (tie.spec
-    start-requires
-    pack-requires
-    same-length
-    same-length-2
-    same-length-3
-    same-length-4
-    same-length-5
-    returns)
+    (λ c κs. tt)
+    (λ c κs. tt)
+    (λ c. search depth 0)
+    (λ c. search depth 0)
+    (λ c. search depth 0)
+    (λ c. search depth 0)
+    (λ c. search depth 0)
+    (λ c. search packs))

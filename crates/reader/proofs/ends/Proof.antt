@@ -5,24 +5,24 @@ use mathlib.Core.Bool.{false}
 use mathlib.Core.Logic.{⊎-elim}
 use native.Mathlib.Omega.{arith}
 use denote.Ref.{now}
-use Rattle.reader.specs.Lines.{NoEnd, block-more}
+use Rattle.reader.specs.Lines.{block, NoEnd, block-more}
 use Rattle.reader.proofs.ends.Statement.{statement}
 use Rattle.reader.proofs.ends.Tie as tie
 
 abbrev Inv-loop : tie.InvT-loop
-Inv-loop text at found₀ i₀ found i = (i ≤ 64) × (found ≡ false → NoEnd text at (at + i))
+Inv-loop text at found₀ i₀ found i = (i ≤ block) × (found ≡ false → NoEnd text at (at + i))
 
 abbrev μ-loop : tie.MeasureT-loop
-μ-loop text at found₀ i₀ found i = 64 - i
+μ-loop text at found₀ i₀ found i = block - i
 
 loop-holds : tie.Need-loop-holds Inv-loop μ-loop
 loop-holds c = (omega arith, λ _ j a b e. omega arith)
 
 add-if1 : tie.Need-add-if1 Inv-loop μ-loop
-add-if1 c = omega (arith, c .before .before .pre, c .before .before .good)
+add-if1 c = omega arith
 
 shared-slice-read-if1 : tie.Need-shared-slice-read-if1 Inv-loop μ-loop
-shared-slice-read-if1 c = omega (arith, c .before .before .before .pre)
+shared-slice-read-if1 c = omega arith
 
 add-i : tie.Need-add-i Inv-loop μ-loop
 add-i c = omega arith
@@ -31,7 +31,15 @@ loop-less : tie.Need-loop-less Inv-loop μ-loop
 loop-less c = omega arith
 
 loop-again : tie.Need-loop-again Inv-loop μ-loop
-loop-again c = (omega arith, λ e. ⊎-elim (λ w. absurd (let z : _≡_ {A = ℕ} 0 1 = cc (w .1) in omega arith)) (λ w. block-more (now (c .before .before .before .before .args .text)) (c .before .before .before .before .args .at) (c .before .before .before .loop .i) (c .before .before .before .loop .found) (c .before .before .before .loop .inv .1) (w .0 .left) (let y : c .before .before .before .loop .found ≡ false = cc (w .1) in y)) (c .if1 .came))
+loop-again c =
+    let lent = c .before .before .before .before in
+    let turn = c .before .before .before .loop in (
+      omega arith,
+      λ e. ⊎-elim
+          (λ w. absurd (let z : _≡_ {A = ℕ} 0 1 = cc (w .1) in omega arith))
+          (λ w. block-more (now (lent .args .text)) (lent .args .at) (turn .i) (turn .inv .1 (let y : turn .found ≡ false = cc (w .1) in y)) (w .0 .left))
+          (c .if1 .came),
+    )
 
 returns : tie.Need-returns Inv-loop μ-loop
 returns c = λ e j a b x. c .before .loop .inv .1 e j a (omega arith) x

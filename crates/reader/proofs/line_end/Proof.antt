@@ -26,10 +26,12 @@ shared-slice-read-if1 : tie.Need-shared-slice-read-if1 Inv-loop μ-loop Inv-loop
 shared-slice-read-if1 c = c .before .before .loop .inv .1
 
 returns : tie.Need-returns Inv-loop μ-loop Inv-loop2 μ-loop2
-returns c = record { after = c .before .before .before .loop .inv .0; inside = c .before .before .before .loop .inv .1; before = c .before .before .before .loop .inv .2; is = c .if1 .taken }
+returns c =
+    let inv = c .before .before .before .loop .inv in
+    record { after = inv .0; inside = inv .1; before = inv .2; is = c .if1 .taken }
 
 add-i : tie.Need-add-i Inv-loop μ-loop Inv-loop2 μ-loop2
-add-i c = omega (arith, c .before .before .before .loop .inv .1, c .before .before .before .before .before .good)
+add-i c = omega arith
 
 add-k : tie.Need-add-k Inv-loop μ-loop Inv-loop2 μ-loop2
 add-k c = omega arith
@@ -38,28 +40,46 @@ loop-less : tie.Need-loop-less Inv-loop μ-loop Inv-loop2 μ-loop2
 loop-less c = omega arith
 
 loop-again : tie.Need-loop-again Inv-loop μ-loop Inv-loop2 μ-loop2
-loop-again c = (omega (arith, c .before .before .before .loop .inv .0), c .before .before .before .before .before .pre .1 (c .before .before .before .loop .i) (c .before .before .before .loop .inv .1) (c .if1 .left), no-end-more (now (c .before .before .before .before .before .args .text)) (c .before .before .before .before .before .args .at) (c .before .before .before .loop .i) (c .before .before .before .loop .inv .2) (c .if1 .left))
+loop-again c =
+    let lent = c .before .before .before .before .before in
+    let turn = c .before .before .before .loop in (
+      omega arith,
+      lent .pre .1 (turn .i) (turn .inv .1) (c .if1 .left),
+      no-end-more (now (lent .args .text)) (lent .args .at) (turn .i) (turn .inv .2) (c .if1 .left),
+    )
 
 pass-requires : tie.Need-pass-requires Inv-loop μ-loop Inv-loop2 μ-loop2
 pass-requires c κs = (c .before .loop .inv .1, c .before .before .before .pre .1)
 
 loop2-holds : tie.Need-loop2-holds Inv-loop μ-loop Inv-loop2 μ-loop2
-loop2-holds c = (omega (arith, c .before .before .loop .inv .0, c .pass .ensures .0), c .pass .ensures .1, no-end-join (now (c .before .before .before .before .args .text)) (c .before .before .before .before .args .at) (c .before .before .loop .i) (c .pass .result) (c .before .before .loop .inv .2) (c .pass .ensures .2))
+loop2-holds c =
+    let lent = c .before .before .before .before in
+    let turn = c .before .before .loop in
+    let passed = c .pass .ensures in
+    (omega arith, passed .1, no-end-join (now (lent .args .text)) (lent .args .at) (turn .i) _ (turn .inv .2) (passed .2))
 
 shared-slice-read-if2 : tie.Need-shared-slice-read-if2 Inv-loop μ-loop Inv-loop2 μ-loop2
 shared-slice-read-if2 c = c .before .loop2 .inv .1
 
 add-j : tie.Need-add-j Inv-loop μ-loop Inv-loop2 μ-loop2
-add-j c = omega (arith, c .before .before .loop2 .inv .1, c .before .before .before .before .before .before .before .good)
+add-j c = omega arith
 
 loop2-less : tie.Need-loop2-less Inv-loop μ-loop Inv-loop2 μ-loop2
-loop2-less c = omega (arith, c .before .before .loop2 .inv .1)
+loop2-less c = omega arith
 
 loop2-again : tie.Need-loop2-again Inv-loop μ-loop Inv-loop2 μ-loop2
-loop2-again c = (omega (arith, c .before .before .loop2 .inv .0), c .before .before .before .before .before .before .before .pre .1 (c .before .before .loop2 .j) (c .before .before .loop2 .inv .1) (c .if2 .taken), no-end-more (now (c .before .before .before .before .before .before .before .args .text)) (c .before .before .before .before .before .before .before .args .at) (c .before .before .loop2 .j) (c .before .before .loop2 .inv .2) (c .if2 .taken))
+loop2-again c =
+    let lent = c .before .before .before .before .before .before .before in
+    let turn = c .before .before .loop2 in (
+      omega arith,
+      lent .pre .1 (turn .j) (turn .inv .1) (c .if2 .taken),
+      no-end-more (now (lent .args .text)) (lent .args .at) (turn .j) (turn .inv .2) (c .if2 .taken),
+    )
 
 returns-2 : tie.Need-returns-2 Inv-loop μ-loop Inv-loop2 μ-loop2
-returns-2 c = record { after = c .before .before .loop2 .inv .0; inside = c .before .before .loop2 .inv .1; before = c .before .before .loop2 .inv .2; is = c .if2 .left }
+returns-2 c =
+    let inv = c .before .before .loop2 .inv in
+    record { after = inv .0; inside = inv .1; before = inv .2; is = c .if2 .left }
 
 pub line-end-spec : {M : Type 1} → statement M
 line-end-spec =

@@ -1,5 +1,5 @@
 -- `reader::pass` passes blocks in which no line ends; the last byte of the text ends one. Assumes nothing.
-use Prim.Native.Nat.{_+_, _-_, _≤_, _<_}
+use Prim.Native.Nat.{_-_, _≤_, _<_}
 use native.Mathlib.Omega.{arith}
 use denote.Ref.{now}
 use lib.ListN.{length}
@@ -17,22 +17,27 @@ loop-holds : tie.Need-loop-holds Inv-loop μ-loop
 loop-holds c = (omega arith, c .before .pre .0, no-end-none (now (c .before .args .text)) (c .before .args .at))
 
 sub-loop : tie.Need-sub-loop Inv-loop μ-loop
-sub-loop c = omega (arith, c .loop .inv .1)
+sub-loop c = omega arith
 
 ends-requires : tie.Need-ends-requires Inv-loop μ-loop
-ends-requires c κs = omega (arith, c .before .loop .inv .1)
+ends-requires c κs = omega arith
 
 returns : tie.Need-returns Inv-loop μ-loop
 returns c = c .before .before .before .loop .inv
 
 add-i : tie.Need-add-i Inv-loop μ-loop
-add-i c = omega (arith, c .before .before .before .loop .inv .1, c .before .before .before .before .before .good)
+add-i c = omega arith
 
 loop-less : tie.Need-loop-less Inv-loop μ-loop
-loop-less c = omega (arith, c .before .before .before .loop .inv .1)
+loop-less c = omega arith
 
 loop-again : tie.Need-loop-again Inv-loop μ-loop
-loop-again c = (omega (arith, c .before .before .before .loop .inv .0), block-inside (now (c .before .before .before .before .before .args .text)) (c .before .before .before .loop .i) (c .before .before .before .before .before .pre .1) (omega (arith, c .before .before .before .loop .inv .1)) (c .before .ends .ensures (c .if1 .left)), no-end-join (now (c .before .before .before .before .before .args .text)) (c .before .before .before .before .before .args .at) (c .before .before .before .loop .i) (c .before .before .before .loop .i + 64) (c .before .before .before .loop .inv .2) (c .before .ends .ensures (c .if1 .left)))
+loop-again c =
+    let lent = c .before .before .before .before .before in
+    let turn = c .before .before .before .loop in
+    let text = now (lent .args .text) in
+    let none = c .before .ends .ensures (c .if1 .left) in
+    (omega arith, block-inside text (turn .i) (lent .pre .1) (omega arith) none, no-end-join text (lent .args .at) (turn .i) _ (turn .inv .2) none)
 
 returns-2 : tie.Need-returns-2 Inv-loop μ-loop
 returns-2 c = c .before .loop .inv

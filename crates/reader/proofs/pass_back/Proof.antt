@@ -17,7 +17,7 @@ loop-holds : tie.Need-loop-holds Inv-loop μ-loop
 loop-holds c = (omega arith, no-end-none (now (c .before .args .text)) (length (now (c .before .args .text))))
 
 ends-requires : tie.Need-ends-requires Inv-loop μ-loop
-ends-requires c κs = omega (arith, c .before .loop .inv .0)
+ends-requires c κs = omega arith
 
 returns : tie.Need-returns Inv-loop μ-loop
 returns c = c .before .before .before .loop .inv
@@ -26,7 +26,10 @@ loop-less : tie.Need-loop-less Inv-loop μ-loop
 loop-less c = omega arith
 
 loop-again : tie.Need-loop-again Inv-loop μ-loop
-loop-again c = (omega (arith, c .before .before .before .loop .inv .0), no-end-back-block (now (c .before .before .before .before .before .args .text)) (c .before .before .before .loop .r) (omega arith) (c .before .ends .ensures (c .if1 .left)) (c .before .before .before .loop .inv .1))
+loop-again c =
+    let text = now (c .before .before .before .before .before .args .text) in
+    let turn = c .before .before .before .loop in
+    (omega arith, no-end-back-block text (turn .r) (omega arith) (c .before .ends .ensures (c .if1 .left)) (turn .inv .1))
 
 returns-2 : tie.Need-returns-2 Inv-loop μ-loop
 returns-2 c = c .before .loop .inv

@@ -23,10 +23,12 @@ sub-if1 : tie.Need-sub-if1 Inv-loop μ-loop
 sub-if1 c = omega arith
 
 shared-slice-read-if1 : tie.Need-shared-slice-read-if1 Inv-loop μ-loop
-shared-slice-read-if1 c = omega (arith, c .before .before .loop .inv .0)
+shared-slice-read-if1 c = omega arith
 
 returns : tie.Need-returns Inv-loop μ-loop
-returns c = whole-at (now (c .before .before .before .before .before .before .args .text)) (c .before .before .before .loop .r) (omega arith) (c .before .before .before .loop .inv .0) (c .if1 .taken) (c .before .before .before .loop .inv .1)
+returns c =
+    let turn = c .before .before .before .loop in
+    whole-at (omega arith) (turn .inv .0) (c .if1 .taken) (turn .inv .1)
 
 sub-r : tie.Need-sub-r Inv-loop μ-loop
 sub-r c = omega arith
@@ -35,10 +37,13 @@ loop-less : tie.Need-loop-less Inv-loop μ-loop
 loop-less c = omega arith
 
 loop-again : tie.Need-loop-again Inv-loop μ-loop
-loop-again c = (omega arith, no-end-back (now (c .before .before .before .before .before .before .args .text)) (c .before .before .before .loop .r) (omega arith) (c .if1 .left) (c .before .before .before .loop .inv .1))
+loop-again c =
+    let text = now (c .before .before .before .before .before .before .args .text) in
+    let turn = c .before .before .before .loop in
+    (omega arith, no-end-back text (turn .r) (omega arith) (c .if1 .left) (turn .inv .1))
 
 returns-2 : tie.Need-returns-2 Inv-loop μ-loop
-returns-2 c = whole-none (now (c .before .before .before .before .args .text)) (c .before .loop .r) (omega arith) (c .before .loop .inv .1)
+returns-2 c = whole-none (omega arith) (c .before .loop .inv .1)
 
 pub whole-spec : {M : Type 1} → statement M
 whole-spec =

@@ -1,9 +1,8 @@
 -- `recounting::leader_of` meets its contract: the two cases of the fresh leaders. Assumes nothing.
-use native.Mathlib.Omega.{arith}
 use Prim.Native.Nat.{_+_, _*_}
-use mathlib.Core.Path.{sym}
-use Rattle.recounting.specs.Fresh.{fresh-on, fresh-off}
+use native.Mathlib.Omega.{arith}
 use borrow.Author.Needs.{needs}
+use Rattle.recounting.specs.Fresh.{leader-found, leader-none}
 use Rattle.recounting.proofs.leader_of.Statement.{statement}
 use Rattle.recounting.proofs.leader_of.Tie as tie
 
@@ -26,16 +25,18 @@ shared-slice-read-result : tie.Need-shared-slice-read-result
 shared-slice-read-result c = search needs
 
 cast-result : tie.Need-cast-result
-cast-result c = omega (arith, c .shared-slice-known2 .given (2 * c .before .before .before .args .n + c .before .before .before .args .q))
+cast-result c =
+    let a = c .before .before .before .args in
+    omega (arith, c .shared-slice-known2 .given (2 * a .n + a .q))
 
 returns : tie.Need-returns
-returns c = let a = c .before .before .before .args in sym (fresh-on (a .n) (a .work .now) (a .q) (c .before .before .before .pre .2) (c .before .if1 .taken))
+returns c = leader-found (c .before .before .before .pre .2) (c .before .if1 .taken)
 
 cast-result-2 : tie.Need-cast-result-2
 cast-result-2 c = search needs
 
 returns-2 : tie.Need-returns-2
-returns-2 c = let a = c .before .before .args in sym (fresh-off (a .n) (a .work .now) (a .q) (c .before .before .pre .2) (c .if1 .left))
+returns-2 c = leader-none (c .before .before .pre .2) (c .if1 .left)
 
 pub leader-of-spec : {M : Type 1} → statement M
 leader-of-spec =

@@ -3,8 +3,8 @@
 use native.Mathlib.Omega.{arith}
 use mathlib.Core.Path.{sym, _∙_}
 use mathlib.Core.Logic.{inl, inr, ⊎-elim}
-use Rattle.editing.specs.Targets.{named, set-number, set-free, set-state, set-passes}
 use borrow.Author.Needs.{needs}
+use Rattle.editing.specs.Targets.{named, set-number, set-free, set-state, set-passes}
 use Rattle.setting.proofs.set_link.Statement.{statement}
 use Rattle.setting.proofs.set_link.Tie as tie
 
@@ -12,63 +12,59 @@ wrong-number-requires : tie.Need-wrong-number-requires
 wrong-number-requires c κs = search needs
 
 returns : tie.Need-returns
-returns c =
-    let a = c .before .before .before .before .before .before .before .before .args in
-    set-number (a .n) (a .states .now) (a .links .now) (a .leaders .now) (a .holds .now) (a .counts .now) (a .list .now) (a .p) (a .k) (a .t)
-    (sym (c .if1 .taken) ∙ c .before .wrong-number .ensures)
+returns c = set-number (sym (c .if1 .taken) ∙ c .before .wrong-number .ensures)
 
 names-free-requires : tie.Need-names-free-requires
 names-free-requires c κs =
-    let given = c .before .before .before .before .before .before .before .before .before .pre in
-    let a = c .before .before .before .before .before .before .before .before .before .args in
-    let x = named (a .n) (a .p) (a .k) (a .t) (sym (c .before .if1 .left) ∙ c .before .before .wrong-number .ensures) in
-    (omega (arith, x .0, given .0 .sized .base .states), ⊎-elim (λ e. inl e) (λ h. inr (omega (arith, given .0 .sized .base .states))) (x .2))
+    let told = c .before in
+    let asked = told .before in
+    let begun = asked .before .before .before .before .before .before .before in
+    let states = begun .pre .0 .sized .base .states in
+    let right = named _ _ _ _ (sym (told .if1 .left) ∙ asked .wrong-number .ensures) in
+    (omega (arith, right .0), ⊎-elim (λ e. inl e) (λ h. inr (omega arith)) (right .2))
 
 same-length : tie.Need-same-length
 same-length c = search needs
 
 returns-2 : tie.Need-returns-2
 returns-2 c =
-    let a = c .before .before .before .before .before .before .before .before .before .before .before .args in
-    let if1 = c .before .before .before .if1 in
-    let number = c .before .before .before .before .wrong-number in
-    set-free (a .n) (a .states .now) (a .links .now) (a .leaders .now) (a .holds .now) (a .counts .now) (a .list .now) (a .p) (a .k) (a .t)
-    (sym (if1 .left) ∙ number .ensures) (sym (c .if2 .taken) ∙ c .before .names-free .ensures)
+    let freely = c .before in
+    let told = freely .before .before in
+    let asked = told .before in
+    set-free (sym (told .if1 .left) ∙ asked .wrong-number .ensures) (sym (c .if2 .taken) ∙ freely .names-free .ensures)
 
 slice-read-if3 : tie.Need-slice-read-if3
 slice-read-if3 c =
-    let a = c .before .before .before .before .before .before .before .before .before .before .before .before .args in
-    let if1 = c .before .before .before .before .if1 in
-    let number = c .before .before .before .before .before .wrong-number in
-    let given = c .before .before .before .before .before .before .before .before .before .before .before .before .pre in
-    omega (arith, named (a .n) (a .p) (a .k) (a .t) (sym (if1 .left) ∙ number .ensures) .0, given .0 .sized .base .states)
+    let told = c .before .before .before .before in
+    let asked = told .before in
+    let begun = asked .before .before .before .before .before .before .before in
+    omega (arith, named _ _ _ _ (sym (told .if1 .left) ∙ asked .wrong-number .ensures) .0, begun .pre .0 .sized .base .states)
 
 same-length-2 : tie.Need-same-length-2
 same-length-2 c = search needs
 
 returns-3 : tie.Need-returns-3
 returns-3 c =
-    let a = c .before .before .before .before .before .before .before .before .before .before .before .before .before .args in
-    let if1 = c .before .before .before .before .before .if1 in
-    let number = c .before .before .before .before .before .before .wrong-number in
-    let free = c .before .before .before .names-free in
-    set-state (a .n) (a .states .now) (a .links .now) (a .leaders .now) (a .holds .now) (a .counts .now) (a .list .now) (a .p) (a .k) (a .t)
-    (sym (if1 .left) ∙ number .ensures) (sym (c .before .before .if2 .left) ∙ free .ensures) (c .if3 .taken)
+    let live = c .before .before in
+    let freely = live .before in
+    let told = freely .before .before in
+    let asked = told .before in
+    set-state (sym (told .if1 .left) ∙ asked .wrong-number .ensures) (sym (live .if2 .left) ∙ freely .names-free .ensures) (c .if3 .taken)
 
 set-place-requires : tie.Need-set-place-requires
 set-place-requires c κs =
-    let given = c .before .before .before .before .before .before .before .before .before .before .before .before .before .before .before .before .before .before .pre in
-    let a = c .before .before .before .before .before .before .before .before .before .before .before .before .before .before .before .before .before .before .args in
-    let if1 = c .before .before .before .before .before .before .before .before .before .before .if1 in
-    let number = c .before .before .before .before .before .before .before .before .before .before .before .wrong-number in
-    let if2 = c .before .before .before .before .before .before .before .if2 in
-    let free = c .before .before .before .before .before .before .before .before .names-free in
-    let if3 = c .before .before .before .before .before .if3 in (
-      given .0,
-      given .1,
-      set-passes (a .n) (a .states .now) (a .links .now) (a .leaders .now) (a .holds .now) (a .counts .now) (a .list .now) (a .p)
-          (a .k) (a .t) (sym (if1 .left) ∙ number .ensures) (sym (if2 .left) ∙ free .ensures) (if3 .left),
-    )
+    let draft = c .before .before .before .before .before in
+    let live = draft .before .before in
+    let freely = live .before in
+    let told = freely .before .before in
+    let asked = told .before in
+    let begun = asked .before .before .before .before .before .before .before in
+    record {
+      ready = begun .pre .0;
+      room = begun .pre .1;
+      passes =
+          set-passes (sym (told .if1 .left) ∙ asked .wrong-number .ensures) (sym (live .if2 .left) ∙ freely .names-free .ensures) (draft .if3 .left);
+    }
 
 cast-freed : tie.Need-cast-freed
 cast-freed c = omega (arith, c .before .before .before .before .before .before .before .before .before .before .set-place .ensures .few)

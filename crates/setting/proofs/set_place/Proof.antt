@@ -1,72 +1,68 @@
--- `setting::set_place` meets its contract. The counts match again; at most the old target's group fell, and the letting go leaves what 01 says.
+-- `setting::set_place` meets its contract. The counts match again; at most the old target's group fell, and the letting go leaves what the rules say.
 -- Assumes nothing.
 use mathlib.Core.Path.{_∙_}
-use Rattle.editing.specs.Set.{relinking, set-tipping, set-going, set-done}
+use Rattle.rules.specs.Commands.{withLinks}
+use Rattle.editing.specs.Set.{relinking, set-edited}
+use Rattle.editing.specs.Started.{tippings-first, tumbled-one, edited-tippings, edited-going, edited-done}
 use Rattle.setting.proofs.set_place.Statement.{statement}
 use Rattle.setting.proofs.set_place.Tie as tie
 
 relink-requires : tie.Need-relink-requires
-relink-requires c κs =
-    let given = c .before .before .before .before .before .before .before .before .before .pre in
-    let a = c .before .before .before .before .before .before .before .before .before .args in
-    relinking (a .n) (a .states .now) (a .links .now) (a .leaders .now) (a .holds .now) (a .counts .now) (a .p) (a .k) (a .t) (given .0) (given .2)
+relink-requires c κs = relinking (c .before .before .before .before .before .before .before .before .before .pre)
 
 fall-requires : tie.Need-fall-requires
+unfolding withLinks
 fall-requires c κs =
-    let moved = c .before .before .before .before .before .before .before .before .relink in
-    let given = c .before .before .before .before .before .before .before .before .before .before .before .before .before .before .before .before .before .before .pre in
-    let a = c .before .before .before .before .before .before .before .before .before .before .before .before .before .before .before .before .before .before .args in
-    set-tipping (a .n) (a .states .now) (a .links .now) (a .leaders .now) (a .holds .now) (a .counts .now) (a .p) (a .k) (a .t) (given .0) (given .2)
-    (moved .last .1 .0) (moved .last .1 .1 .1 .0) (moved .result) (moved .ensures) (a .list .now) (given .1)
+    let moved = c .before .before .before .before .before .before .before .before in
+    let begun = moved .before .before .before .before .before .before .before .before .before .before in
+    tippings-first (edited-tippings (set-edited (begun .pre) (moved .relink .ensures)))
 
 let-go-requires : tie.Need-let-go-requires
+unfolding withLinks
 let-go-requires c κs =
-    let moved = c .before .before .before .before .before .before .before .before .before .before .before .before .before .before .before .before .before .before .relink in
-    let fell = c .before .before .before .before .before .before .before .before .before .fall in
-    let given = c .before .before .before .before .before .before .before .before .before .before .before .before .before .before .before .before .before .before .before .before .before .before .before .before .before .before .before .before .pre in
-    let a = c .before .before .before .before .before .before .before .before .before .before .before .before .before .before .before .before .before .before .before .before .before .before .before .before .before .before .before .before .args in
-    set-going (a .n) (a .states .now) (a .links .now) (a .leaders .now) (a .holds .now) (a .counts .now) (a .p) (a .k) (a .t) (given .0) (given .2)
-    (moved .last .1 .0) (moved .last .1 .1 .1 .0) (moved .result) (moved .ensures) (a .list .now) (given .1) (fell .last .1 .0)
-    (fell .last .1 .1 .1 .1 .0) (fell .result) (fell .ensures)
+    let fell = c .before .before .before .before .before .before .before .before .before in
+    let moved = fell .before .before .before .before .before .before .before .before .before in
+    let begun = moved .before .before .before .before .before .before .before .before .before .before in
+    edited-going (set-edited (begun .pre) (moved .relink .ensures)) (tumbled-one (fell .fall .ensures))
 
 same-length : tie.Need-same-length
 same-length c =
-    let freed = c .before .before .before .before .before .before .before .before .before .before .let-go in
-    let fell = c .before .before .before .before .before .before .before .before .before .before .before .before .before .before .before .before .before .before .before .before .fall in
-    freed .kept .1 .0 ∙ fell .kept .1 .0
+    let freed = c .before .before .before .before .before .before .before .before .before .before in
+    let fell = freed .before .before .before .before .before .before .before .before .before .before in
+    freed .let-go .kept .1 .0 ∙ fell .fall .kept .1 .0
 
 same-length-2 : tie.Need-same-length-2
 same-length-2 c =
-    let freed = c .before .before .before .before .before .before .before .before .before .before .let-go in
-    let moved = c .before .before .before .before .before .before .before .before .before .before .before .before .before .before .before .before .before .before .before .before .before .before .before .before .before .before .before .before .before .relink in
-    freed .kept .1 .1 .0 ∙ moved .kept .1 .0
+    let freed = c .before .before .before .before .before .before .before .before .before .before in
+    let fell = freed .before .before .before .before .before .before .before .before .before .before in
+    let moved = fell .before .before .before .before .before .before .before .before .before in
+    freed .let-go .kept .1 .1 .0 ∙ moved .relink .kept .1 .0
 
 same-length-3 : tie.Need-same-length-3
 same-length-3 c = c .before .before .before .before .before .before .before .before .before .before .let-go .kept .1 .1 .1 .0
 
 same-length-4 : tie.Need-same-length-4
 same-length-4 c =
-    let freed = c .before .before .before .before .before .before .before .before .before .before .let-go in
-    let moved = c .before .before .before .before .before .before .before .before .before .before .before .before .before .before .before .before .before .before .before .before .before .before .before .before .before .before .before .before .before .relink in
-    freed .kept .1 .1 .1 .1 .0 ∙ moved .kept .1 .1 .1 .0
+    let freed = c .before .before .before .before .before .before .before .before .before .before in
+    let fell = freed .before .before .before .before .before .before .before .before .before .before in
+    let moved = fell .before .before .before .before .before .before .before .before .before in
+    freed .let-go .kept .1 .1 .1 .1 .0 ∙ moved .relink .kept .1 .1 .1 .0
 
 same-length-5 : tie.Need-same-length-5
 same-length-5 c =
-    let freed = c .before .before .before .before .before .before .before .before .before .before .let-go in
-    let fell = c .before .before .before .before .before .before .before .before .before .before .before .before .before .before .before .before .before .before .before .before .fall in
-    freed .kept .1 .1 .1 .1 .1 .0 ∙ fell .kept .1 .1 .1 .1 .0
+    let freed = c .before .before .before .before .before .before .before .before .before .before in
+    let fell = freed .before .before .before .before .before .before .before .before .before .before in
+    freed .let-go .kept .1 .1 .1 .1 .1 .0 ∙ fell .fall .kept .1 .1 .1 .1 .0
 
 returns : tie.Need-returns
+unfolding withLinks
 returns c =
-    let freed = c .before .before .before .before .before .before .before .before .before .before .let-go in
-    let fell = c .before .before .before .before .before .before .before .before .before .before .before .before .before .before .before .before .before .before .before .before .fall in
-    let moved = c .before .before .before .before .before .before .before .before .before .before .before .before .before .before .before .before .before .before .before .before .before .before .before .before .before .before .before .before .before .relink in
-    let given = c .before .before .before .before .before .before .before .before .before .before .before .before .before .before .before .before .before .before .before .before .before .before .before .before .before .before .before .before .before .before .before .before .before .before .before .before .before .before .before .pre in
-    let a = c .before .before .before .before .before .before .before .before .before .before .before .before .before .before .before .before .before .before .before .before .before .before .before .before .before .before .before .before .before .before .before .before .before .before .before .before .before .before .before .args in
-    set-done (a .n) (a .states .now) (a .links .now) (a .leaders .now) (a .holds .now) (a .counts .now) (a .p) (a .k) (a .t) (given .0) (given .2)
-    (moved .last .1 .0) (moved .last .1 .1 .1 .0) (moved .result) (moved .ensures) (a .list .now) (given .1) (fell .last .1 .0)
-    (fell .last .1 .1 .1 .1 .0) (fell .result) (fell .ensures) (fell .kept .1 .1 .1 .1 .0) (freed .last .1 .0) (freed .last .1 .1 .0)
-    (freed .last .1 .1 .1 .0) (freed .last .1 .1 .1 .1 .0) (freed .last .1 .1 .1 .1 .1 .0) (freed .result) (freed .ensures)
+    let freed = c .before .before .before .before .before .before .before .before .before .before in
+    let fell = freed .before .before .before .before .before .before .before .before .before .before in
+    let moved = fell .before .before .before .before .before .before .before .before .before in
+    let begun = moved .before .before .before .before .before .before .before .before .before .before in
+    edited-done (set-edited (begun .pre) (moved .relink .ensures)) (tumbled-one (fell .fall .ensures)) (fell .fall .kept .1 .1 .1 .1 .0)
+    (freed .let-go .ensures)
 
 pub set-place-spec : {M : Type 1} → statement M
 set-place-spec =

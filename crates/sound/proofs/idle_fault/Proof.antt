@@ -1,7 +1,6 @@
 -- `sound::idle_fault` meets its contract: only a leader with count 0 is a fault. Assumes nothing.
 use native.Mathlib.Omega.{arith}
 use Rattle.sound.specs.Faults.{fault-none, fault-one}
-use borrow.Author.Needs.{needs}
 use Rattle.sound.proofs.idle_fault.Statement.{statement}
 use Rattle.sound.proofs.idle_fault.Tie as tie
 

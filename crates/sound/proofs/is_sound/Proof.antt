@@ -1,9 +1,7 @@
 -- `sound::is_sound` meets its contract: work is cleared before and after, and `judge` decides soundness. Assumes nothing.
-use native.Mathlib.Omega.{arith}
 use mathlib.Core.Path.{_∙_}
-use Rattle.rules.specs.Tables.{Store}
-use Rattle.rules.specs.Calls.{storeOf}
-use Rattle.sound.specs.Judged.{is-sound, clear-size, clear-zero, cleared}
+use native.Mathlib.Omega.{arith}
+use Rattle.sound.specs.Judged.{is-sound, clears, cleared-again}
 use Rattle.sound.proofs.is_sound.Statement.{statement}
 use Rattle.sound.proofs.is_sound.Tie as tie
 
@@ -15,23 +13,36 @@ fill-u32-requires c κs = c .before .before .before .before .before .before .bef
 
 judge-requires : tie.Need-judge-requires
 judge-requires c κs =
-    let n = c .before .before .before .before .before .before .before .before .before .before .before .args .n in
-    let w = c .before .before .before .before .before .before .before .before .before .before .before .args .work .now in
-    (c .before .before .before .before .before .before .before .before .before .before .before .pre .1, record { size = omega (arith, clear-size n w (c .before .before .before .before .before .before .before .before .before .before .before .pre .2) (c .before .before .before .fill-u32 .last .0) (c .before .before .before .fill-u32 .ensures), c .before .before .before .before .before .before .before .before .before .before .before .pre .2); zeros = clear-zero n w (c .before .before .before .before .before .before .before .before .before .before .before .pre .2) (c .before .before .before .fill-u32 .last .0) (c .before .before .before .fill-u32 .ensures) })
+    let cleared = c .before .before .before in
+    let start = cleared .before .before .before .before .before .before .before .before in
+    (start .pre .1, clears (start .args .work .now) (start .pre .2) (cleared .fill-u32 .ensures))
 
 mul-fill-u32-2 : tie.Need-mul-fill-u32-2
-mul-fill-u32-2 c = omega (arith, c .before .before .before .before .before .before .before .before .before .before .before .before .before .before .before .pre .1 .base .most)
+mul-fill-u32-2 c =
+    let cleared = c .before .before .before .before .before .before .before in
+    omega (arith, cleared .before .before .before .before .before .before .before .before .pre .1 .base .most)
 
 fill-u32-requires-2 : tie.Need-fill-u32-requires-2
-fill-u32-requires-2 c κs = omega (arith, c .before .before .before .judge .kept .1 .1 .1 .1 .1 .1 .0, c .before .before .before .before .before .before .before .fill-u32 .kept .0, c .before .before .before .before .before .before .before .before .before .before .before .before .before .before .before .pre .2)
+fill-u32-requires-2 c κs =
+    let judged = c .before .before .before in
+    let cleared = judged .before .before .before .before in
+    let start = cleared .before .before .before .before .before .before .before .before in
+    omega (arith, judged .judge .kept .1 .1 .1 .1 .1 .1 .0, cleared .fill-u32 .kept .0, start .pre .2)
 
 same-length : tie.Need-same-length
-same-length c = c .before .before .fill-u322 .kept .0 ∙ c .before .before .before .before .before .before .judge .kept .1 .1 .1 .1 .1 .1 .0 ∙ c .before .before .before .before .before .before .before .before .before .before .fill-u32 .kept .0
+same-length c =
+    let wiped = c .before .before in
+    let judged = wiped .before .before .before .before in
+    let cleared = judged .before .before .before .before in
+    wiped .fill-u322 .kept .0 ∙ judged .judge .kept .1 .1 .1 .1 .1 .1 .0 ∙ cleared .fill-u32 .kept .0
 
 returns : tie.Need-returns
 returns c =
-    let s : Store = storeOf (c .before .before .before .before .before .before .before .before .before .before .before .before .before .before .before .before .before .before .args .n) (c .before .before .before .before .before .before .before .before .before .before .before .before .before .before .before .before .before .before .args .states .now) (c .before .before .before .before .before .before .before .before .before .before .before .before .before .before .before .before .before .before .args .links .now) (c .before .before .before .before .before .before .before .before .before .before .before .before .before .before .before .before .before .before .args .leaders .now) (c .before .before .before .before .before .before .before .before .before .before .before .before .before .before .before .before .before .before .args .holds .now) (c .before .before .before .before .before .before .before .before .before .before .before .before .before .before .before .before .before .before .args .counts .now) in
-    (is-sound s (c .before .before .before .before .before .before .judge .ensures .0), cleared (c .before .before .before .before .before .before .before .before .before .before .before .before .before .before .before .before .before .before .args .n) (c .before .before .before .before .before .before .before .before .before .before .before .before .before .before .before .before .before .before .args .work .now) (c .before .before .before .before .before .before .before .before .before .before .before .before .before .before .before .before .before .before .pre .2) (c .before .before .before .before .before .before .before .before .before .before .fill-u32 .last .0) (c .before .before .before .before .before .before .judge .last .1 .1 .1 .1 .1 .1 .0) (c .before .before .fill-u322 .last .0) (c .before .before .before .before .before .before .before .before .before .before .fill-u32 .ensures) (c .before .before .before .before .before .before .judge .ensures .1) (c .before .before .fill-u322 .ensures))
+    let wiped = c .before .before in
+    let judged = wiped .before .before .before .before in
+    let cleared = judged .before .before .before .before in
+    let start = cleared .before .before .before .before .before .before .before .before in
+    (is-sound (judged .judge .ensures), cleared-again (start .args .work .now) (cleared .fill-u32 .ensures) (judged .judge .ensures) (wiped .fill-u322 .ensures))
 
 pub is-sound-spec : {M : Type 1} → statement M
 is-sound-spec =

@@ -1,6 +1,6 @@
 -- `sound::leader_fault` meets its contract: each return is one case of `Led`. Assumes nothing.
-use native.Mathlib.Omega.{arith}
 use mathlib.Core.Logic.{inl, inr, ⊎-elim}
+use native.Mathlib.Omega.{arith}
 use Rattle.sound.specs.Faults.{fault-none, fault-one}
 use Rattle.sound.proofs.leader_fault.Statement.{statement}
 use Rattle.sound.proofs.leader_fault.Tie as tie

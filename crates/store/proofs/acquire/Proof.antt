@@ -1,87 +1,52 @@
--- `store::acquire` keeps its promise: each arm of how it began cites its law. Assumes nothing.
-use mathlib.Core.Path.{_≡_, refl, sym, _∙_, subst}
-use native.Mathlib.Omega.{arith}
-use borrow.Author.Needs.{needs}
+-- `store::acquire` keeps its promise: each arm of how it began cites its law, and each area keeps its length. Assumes nothing.
+use mathlib.Core.Path.{refl}
 use Rattle.rules.specs.Commands.{settles}
-use Rattle.rules.specs.Calls.{storeOf, areasOf, does, answered, outcome, refusedBy, takesList, Promise}
-use Rattle.rules.specs.declared.Command.the-variants.{Acquire}
-use Rattle.entering.specs.Entered.{entered-ready, entered-room, entered-clear}
-use Rattle.entering.specs.Calls.{list-short, list-flawed, list-done, list-kept}
+use Rattle.rules.specs.Calls.{refusedBy, refusedCall, takesList, takesWork}
+use Rattle.holding.specs.Acquired.{acquiring-of}
+use Rattle.entering.specs.Entered.{entered-ready}
+use Rattle.entering.specs.Calls.{short-arm, flawed-arm, unlisted-arm}
 use Rattle.store.proofs.acquire.Statement.{statement}
 use Rattle.store.proofs.acquire.Tie as tie
 
-enter-requires : tie.Need-enter-requires
-enter-requires c κs = search needs
-
-enum-told : tie.Need-enum-told
-enum-told c = search needs
-
-enum-told-2 : tie.Need-enum-told-2
-enum-told-2 c = search needs
-
-enum-told-3 : tie.Need-enum-told-3
-enum-told-3 c = search needs
-
 acquire-requires : tie.Need-acquire-requires
-acquire-requires c κs = entered-ready (storeOf (c .before .before .before .before .before .before .before .before .before .before .before .before .before .before .before .before .before .args .n) (c .before .before .before .before .before .before .before .before .before .before .before .before .before .before .before .before .before .args .states .now) (c .before .before .before .before .before .before .before .before .before .before .before .before .before .before .before .before .before .args .links .now) (c .before .before .before .before .before .before .before .before .before .before .before .before .before .before .before .before .before .args .leaders .now) (c .before .before .before .before .before .before .before .before .before .before .before .before .before .before .before .before .before .args .holds .now) (c .before .before .before .before .before .before .before .before .before .before .before .before .before .before .before .before .before .args .counts .now)) _ (c .before .before .before .before .before .before .before .before .before .before .before .before .before .before .before .before .before .args .work .now) (c .before .before .before .before .before .before .enter .result) (c .before .before .before .before .before .before .enter .last .1 .1 .1 .1 .1 .1 .1 .0) (c .before .before .enum-told3 .given .1) (c .before .before .before .before .before .before .enter .ensures)
-
-same-length : tie.Need-same-length
-same-length c = refl
-
-same-length-2 : tie.Need-same-length-2
-same-length-2 c = refl
-
-same-length-3 : tie.Need-same-length-3
-same-length-3 c = c .before .before .before .before .enter .kept .1 .1 .1 .1 .1 .1 .1 .0
+acquire-requires c κs =
+    acquiring-of (entered-ready (c .before .before .before .before .before .before .enter .ensures) (c .before .before .enum-told3 .given .1))
 
 returns : tie.Need-returns
-unfolding refusedBy takesList settles
-returns c = list-short (Acquire (c .before .before .before .before .before .before .before .before .before .before .before .before .before .before .before .args .p)) refl (storeOf (c .before .before .before .before .before .before .before .before .before .before .before .before .before .before .before .args .n) (c .before .before .before .before .before .before .before .before .before .before .before .before .before .before .before .args .states .now) (c .before .before .before .before .before .before .before .before .before .before .before .before .before .before .before .args .links .now) (c .before .before .before .before .before .before .before .before .before .before .before .before .before .before .before .args .leaders .now) (c .before .before .before .before .before .before .before .before .before .before .before .before .before .before .before .args .holds .now) (c .before .before .before .before .before .before .before .before .before .before .before .before .before .before .before .args .counts .now)) (c .before .before .before .before .before .before .before .before .before .before .before .before .before .before .before .args .list .now) (c .before .before .before .before .before .before .before .before .before .before .before .before .before .before .before .args .work .now) (c .before .before .before .before .enter .result) (c .before .before .before .before .enter .last .1 .1 .1 .1 .1 .1 .1 .0) (c .enum-told .given .1) (c .before .before .before .before .enter .ensures)
-
-same-length-4 : tie.Need-same-length-4
-same-length-4 c = refl
-
-same-length-5 : tie.Need-same-length-5
-same-length-5 c = refl
-
-same-length-6 : tie.Need-same-length-6
-same-length-6 c = c .before .before .before .before .enter .kept .1 .1 .1 .1 .1 .1 .1 .0
+unfolding refusedBy refusedCall takesList takesWork
+returns c = search short-arm
 
 returns-2 : tie.Need-returns-2
-unfolding refusedBy takesList settles
-returns-2 c = list-flawed (Acquire (c .before .before .before .before .before .before .before .before .before .before .before .before .before .before .before .args .p)) refl (storeOf (c .before .before .before .before .before .before .before .before .before .before .before .before .before .before .before .args .n) (c .before .before .before .before .before .before .before .before .before .before .before .before .before .before .before .args .states .now) (c .before .before .before .before .before .before .before .before .before .before .before .before .before .before .before .args .links .now) (c .before .before .before .before .before .before .before .before .before .before .before .before .before .before .before .args .leaders .now) (c .before .before .before .before .before .before .before .before .before .before .before .before .before .before .before .args .holds .now) (c .before .before .before .before .before .before .before .before .before .before .before .before .before .before .before .args .counts .now)) (c .before .before .before .before .before .before .before .before .before .before .before .before .before .before .before .args .list .now) (c .before .before .before .before .before .before .before .before .before .before .before .before .before .before .before .args .work .now) (c .before .before .before .before .enter .result) (c .before .before .before .before .enter .last .1 .1 .1 .1 .1 .1 .1 .0) (c .enum-told2 .given .1) (c .before .before .before .before .enter .ensures)
-
-same-length-7 : tie.Need-same-length-7
-same-length-7 c = c .before .before .before .before .acquire .kept .1 .1 .1 .1 .0
-
-same-length-8 : tie.Need-same-length-8
-same-length-8 c = c .before .before .before .before .acquire .kept .1 .1 .1 .1 .1 .0
-
-same-length-9 : tie.Need-same-length-9
-same-length-9 c = c .before .before .before .before .before .before .before .before .before .before .before .enter .kept .1 .1 .1 .1 .1 .1 .1 .0
+unfolding refusedBy takesList
+returns-2 c = search flawed-arm
 
 returns-3 : tie.Need-returns-3
-unfolding refusedBy takesList settles
-returns-3 c = list-kept (Acquire (c .before .before .before .before .before .before .before .before .before .before .before .before .before .before .before .before .before .before .before .before .before .before .args .p)) refl (storeOf (c .before .before .before .before .before .before .before .before .before .before .before .before .before .before .before .before .before .before .before .before .before .before .args .n) (c .before .before .before .before .before .before .before .before .before .before .before .before .before .before .before .before .before .before .before .before .before .before .args .states .now) (c .before .before .before .before .before .before .before .before .before .before .before .before .before .before .before .before .before .before .before .before .before .before .args .links .now) (c .before .before .before .before .before .before .before .before .before .before .before .before .before .before .before .before .before .before .before .before .before .before .args .leaders .now) (c .before .before .before .before .before .before .before .before .before .before .before .before .before .before .before .before .before .before .before .before .before .before .args .holds .now) (c .before .before .before .before .before .before .before .before .before .before .before .before .before .before .before .before .before .before .before .before .before .before .args .counts .now)) (c .before .before .before .before .before .before .before .before .before .before .before .before .before .before .before .before .before .before .before .before .before .before .args .list .now) (c .before .before .before .before .before .before .before .before .before .before .before .before .before .before .before .before .before .before .before .before .before .before .args .work .now) refl (c .before .before .before .before .before .before .before .before .before .before .before .enter .result) (c .before .before .before .before .before .before .before .before .before .before .before .enter .last .1 .1 .1 .1 .1 .1 .1 .0) (c .before .before .before .before .before .before .before .enum-told3 .given .1) (c .before .before .before .before .before .before .before .before .before .before .before .enter .ensures) (answered (c .before .before .before .before .acquire .result)) (storeOf (c .before .before .before .before .before .before .before .before .before .before .before .before .before .before .before .before .before .before .before .before .before .before .args .n) (c .before .before .before .before .before .before .before .before .before .before .before .before .before .before .before .before .before .before .before .before .before .before .args .states .now) (c .before .before .before .before .before .before .before .before .before .before .before .before .before .before .before .before .before .before .before .before .before .before .args .links .now) (c .before .before .before .before .before .before .before .before .before .before .before .before .before .before .before .before .before .before .before .before .before .before .args .leaders .now) (c .before .before .before .before .acquire .last .1 .1 .1 .1 .0) (c .before .before .before .before .acquire .last .1 .1 .1 .1 .1 .0)) (c .before .before .before .before .acquire .ensures)
+unfolding takesList settles
+returns-3 c =
+    let ready = entered-ready
+    (c .before .before .before .before .before .before .before .before .before .before .before .enter .ensures)
+    (c .before .before .before .before .before .before .before .enum-told3 .given .1) in
+    let did = c .before .before .before .before .acquire .ensures .did ready in
+    search unlisted-arm
 
 pub acquire-spec : {M : Type 1} → statement M
 acquire-spec =
     tie.close
     (tie.spec
-    enter-requires
-    enum-told
-    enum-told-2
-    enum-told-3
+    (λ c κs. tt)
+    (λ c. c .match .keys1)
+    (λ c. c .match .keys2)
+    (λ c. c .match .keys3)
     acquire-requires
-    same-length
-    same-length-2
-    same-length-3
+    (λ c. refl)
+    (λ c. refl)
+    (λ c. search depth 0)
     returns
-    same-length-4
-    same-length-5
-    same-length-6
+    (λ c. refl)
+    (λ c. refl)
+    (λ c. search depth 0)
     returns-2
-    same-length-7
-    same-length-8
-    same-length-9
+    (λ c. search depth 0)
+    (λ c. search depth 0)
+    (λ c. search depth 0)
     returns-3)

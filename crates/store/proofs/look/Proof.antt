@@ -1,56 +1,37 @@
--- `store::look` keeps its promise: each arm of how it began cites its law. Assumes nothing.
-use borrow.Author.Needs.{needs}
-use Rattle.rules.specs.Calls.{storeOf}
+-- `store::look` keeps its promise: each arm of how it began cites its law, and each area keeps its length. Assumes nothing.
+use Rattle.rules.specs.Calls.{refusedBy, refusedCall, takesList, takesWork}
 use Rattle.entering.specs.Entered.{entered-ready}
-use Rattle.entering.specs.Calls.{look-short, look-flawed, look-done}
+use Rattle.entering.specs.Calls.{short-arm, flawed-arm, sound-arm}
 use Rattle.store.proofs.look.Statement.{statement}
 use Rattle.store.proofs.look.Tie as tie
 
-enter-requires : tie.Need-enter-requires
-enter-requires c κs = search needs
-
-enum-told : tie.Need-enum-told
-enum-told c = search needs
-
-enum-told-2 : tie.Need-enum-told-2
-enum-told-2 c = search needs
-
-enum-told-3 : tie.Need-enum-told-3
-enum-told-3 c = search needs
-
 look-requires : tie.Need-look-requires
-look-requires c κs = entered-ready (storeOf (c .before .before .before .before .before .before .before .before .before .before .before .before .args .n) (c .before .before .before .before .before .before .before .before .before .before .before .before .args .states .now) (c .before .before .before .before .before .before .before .before .before .before .before .before .args .links .now) (c .before .before .before .before .before .before .before .before .before .before .before .before .args .leaders .now) (c .before .before .before .before .before .before .before .before .before .before .before .before .args .holds .now) (c .before .before .before .before .before .before .before .before .before .before .before .before .args .counts .now)) _ (c .before .before .before .before .before .before .before .before .before .before .before .before .args .work .now) (c .before .before .before .before .enter .result) (c .before .before .before .before .enter .last .1 .1 .1 .1 .1 .1 .1 .0) (c .enum-told3 .given .1) (c .before .before .before .before .enter .ensures)
-
-same-length : tie.Need-same-length
-same-length c = c .before .before .before .before .enter .kept .1 .1 .1 .1 .1 .1 .1 .0
+look-requires c κs = entered-ready (c .before .before .before .before .enter .ensures) (c .enum-told3 .given .1)
 
 returns : tie.Need-returns
-returns c = look-short (c .before .before .before .before .before .before .before .before .before .before .before .before .args .p) (storeOf (c .before .before .before .before .before .before .before .before .before .before .before .before .args .n) (c .before .before .before .before .before .before .before .before .before .before .before .before .args .states .now) (c .before .before .before .before .before .before .before .before .before .before .before .before .args .links .now) (c .before .before .before .before .before .before .before .before .before .before .before .before .args .leaders .now) (c .before .before .before .before .before .before .before .before .before .before .before .before .args .holds .now) (c .before .before .before .before .before .before .before .before .before .before .before .before .args .counts .now)) (c .before .before .before .before .before .before .before .before .before .before .before .before .args .work .now) (c .before .before .before .before .enter .result) (c .before .before .before .before .enter .last .1 .1 .1 .1 .1 .1 .1 .0) (c .enum-told .given .1) (c .before .before .before .before .enter .ensures)
-
-same-length-2 : tie.Need-same-length-2
-same-length-2 c = c .before .before .before .before .enter .kept .1 .1 .1 .1 .1 .1 .1 .0
+unfolding refusedBy refusedCall takesList takesWork
+returns c = search short-arm
 
 returns-2 : tie.Need-returns-2
-returns-2 c = look-flawed (c .before .before .before .before .before .before .before .before .before .before .before .before .args .p) (storeOf (c .before .before .before .before .before .before .before .before .before .before .before .before .args .n) (c .before .before .before .before .before .before .before .before .before .before .before .before .args .states .now) (c .before .before .before .before .before .before .before .before .before .before .before .before .args .links .now) (c .before .before .before .before .before .before .before .before .before .before .before .before .args .leaders .now) (c .before .before .before .before .before .before .before .before .before .before .before .before .args .holds .now) (c .before .before .before .before .before .before .before .before .before .before .before .before .args .counts .now)) (c .before .before .before .before .before .before .before .before .before .before .before .before .args .work .now) (c .before .before .before .before .enter .result) (c .before .before .before .before .enter .last .1 .1 .1 .1 .1 .1 .1 .0) (c .enum-told2 .given .1) (c .before .before .before .before .enter .ensures)
-
-same-length-3 : tie.Need-same-length-3
-same-length-3 c = c .before .before .before .before .before .enter .kept .1 .1 .1 .1 .1 .1 .1 .0
+unfolding refusedBy takesList
+returns-2 c = search flawed-arm
 
 returns-3 : tie.Need-returns-3
-returns-3 c = look-done (c .before .before .before .before .before .before .before .before .before .before .before .before .before .args .p) (storeOf (c .before .before .before .before .before .before .before .before .before .before .before .before .before .args .n) (c .before .before .before .before .before .before .before .before .before .before .before .before .before .args .states .now) (c .before .before .before .before .before .before .before .before .before .before .before .before .before .args .links .now) (c .before .before .before .before .before .before .before .before .before .before .before .before .before .args .leaders .now) (c .before .before .before .before .before .before .before .before .before .before .before .before .before .args .holds .now) (c .before .before .before .before .before .before .before .before .before .before .before .before .before .args .counts .now)) (c .before .before .before .before .before .before .before .before .before .before .before .before .before .args .work .now) (c .before .before .before .before .before .enter .result) (c .before .before .before .before .before .enter .last .1 .1 .1 .1 .1 .1 .1 .0) (c .before .enum-told3 .given .1) (c .before .before .before .before .before .enter .ensures) (c .look .result) (c .look .ensures)
+unfolding takesList
+returns-3 c = search sound-arm
 
 pub look-spec : {M : Type 1} → statement M
 look-spec =
     tie.close
     (tie.spec
-    enter-requires
-    enum-told
-    enum-told-2
-    enum-told-3
+    (λ c κs. tt)
+    (λ c. c .match .keys1)
+    (λ c. c .match .keys2)
+    (λ c. c .match .keys3)
     look-requires
-    same-length
+    (λ c. search depth 0)
     returns
-    same-length-2
+    (λ c. search depth 0)
     returns-2
-    same-length-3
+    (λ c. search depth 0)
     returns-3)

@@ -1,10 +1,7 @@
 -- `trace::read_more` leaves the kept bytes as they are: only the part behind them is lent to the read, and byte 10 is put behind them. Assumes nothing.
 use native.Mathlib.Omega.{arith}
+use Rattle.trace.specs.Turned.{behind-on, behind-none, behind-over}
 use borrow.Author.Needs.{needs}
-use Rattle.trace.specs.Turned.{behind-on, behind-none, behind-over, read-size, read-same, read-inside}
-use lib.ListN.{length}
-use Prim.Native.Nat.{_-_, _≤_}
-use borrow.Rule.Slice.PartMut.{putMid}
 use Rattle.trace.proofs.read_more.Statement.{statement}
 use Rattle.trace.proofs.read_more.Tie as tie
 
@@ -39,13 +36,19 @@ same-length : tie.Need-same-length
 same-length c = search needs
 
 returns : tie.Need-returns
-returns c = behind-on (c .before .before .before .before .before .before .before .before .before .args .buf .now) (putMid (c .before .before .before .before .before .before .before .before .before .args .kept) (length (c .before .before .before .before .before .before .before .before .before .args .buf .now) - (c .before .before .before .before .before .before .before .before .before .args .kept)) (c .before .before .before .before .before .before .before .before .before .args .buf .now) (c .before .before .before .before .before .before .read .last .1 .0)) (c .before .before .before .before .before .before .before .before .before .args .kept) (read-size (c .before .before .before .before .before .before .before .before .before .args .buf .now) (c .before .before .before .before .before .before .read .last .1 .0) (c .before .before .before .before .before .before .before .before .before .args .kept) (omega (arith, c .before .before .before .before .before .before .before .before .before .pre)) (c .before .before .before .before .before .before .read .kept .1 .0)) (read-same (c .before .before .before .before .before .before .before .before .before .args .buf .now) (c .before .before .before .before .before .before .read .last .1 .0) (c .before .before .before .before .before .before .before .before .before .args .kept) (omega (arith, c .before .before .before .before .before .before .before .before .before .pre)) (c .before .before .before .before .before .before .read .kept .1 .0)) (c .before .count .result) (read-inside (c .before .before .before .before .before .before .before .before .before .args .buf .now) (c .before .before .before .before .before .before .read .last .1 .0) (c .before .before .before .before .before .before .before .before .before .args .kept) (omega (arith, c .before .before .before .before .before .before .before .before .before .pre)) (c .before .before .before .before .before .before .read .kept .1 .0) (c .before .count .result) (c .before .count .ensures .0 .0))
+returns c =
+    let read : tie.After-read = search in
+    let asked : tie.Start = search in
+    behind-on (asked .pre) (read .read .last .1 .0) (read .read .kept .1 .0) (c .before .count .ensures .0 .0)
 
 same-length-2 : tie.Need-same-length-2
 same-length-2 c = search needs
 
 returns-2 : tie.Need-returns-2
-returns-2 c = behind-none (c .before .before .before .before .before .before .before .before .before .before .args .buf .now) (putMid (c .before .before .before .before .before .before .before .before .before .before .args .kept) (length (c .before .before .before .before .before .before .before .before .before .before .args .buf .now) - (c .before .before .before .before .before .before .before .before .before .before .args .kept)) (c .before .before .before .before .before .before .before .before .before .before .args .buf .now) (c .before .before .before .before .before .before .before .read .last .1 .0)) (c .before .before .before .before .before .before .before .before .before .before .args .kept) (read-size (c .before .before .before .before .before .before .before .before .before .before .args .buf .now) (c .before .before .before .before .before .before .before .read .last .1 .0) (c .before .before .before .before .before .before .before .before .before .before .args .kept) (omega (arith, c .before .before .before .before .before .before .before .before .before .before .pre)) (c .before .before .before .before .before .before .before .read .kept .1 .0)) (read-same (c .before .before .before .before .before .before .before .before .before .before .args .buf .now) (c .before .before .before .before .before .before .before .read .last .1 .0) (c .before .before .before .before .before .before .before .before .before .before .args .kept) (omega (arith, c .before .before .before .before .before .before .before .before .before .before .pre)) (c .before .before .before .before .before .before .before .read .kept .1 .0)) (c .if2 .taken)
+returns-2 c =
+    let read : tie.After-read = search in
+    let asked : tie.Start = search in
+    behind-none (asked .pre) (read .read .last .1 .0) (read .read .kept .1 .0) (c .if2 .taken)
 
 slice-write-buf : tie.Need-slice-write-buf
 slice-write-buf c = search needs
@@ -57,7 +60,10 @@ same-length-3 : tie.Need-same-length-3
 same-length-3 c = search needs
 
 returns-3 : tie.Need-returns-3
-returns-3 c = behind-over (c .before .before .before .before .before .before .before .before .before .before .args .buf .now) (putMid (c .before .before .before .before .before .before .before .before .before .before .args .kept) (length (c .before .before .before .before .before .before .before .before .before .before .args .buf .now) - (c .before .before .before .before .before .before .before .before .before .before .args .kept)) (c .before .before .before .before .before .before .before .before .before .before .args .buf .now) (c .before .before .before .before .before .before .before .read .last .1 .0)) (c .before .before .before .before .before .before .before .before .before .before .args .kept) (read-size (c .before .before .before .before .before .before .before .before .before .before .args .buf .now) (c .before .before .before .before .before .before .before .read .last .1 .0) (c .before .before .before .before .before .before .before .before .before .before .args .kept) (omega (arith, c .before .before .before .before .before .before .before .before .before .before .pre)) (c .before .before .before .before .before .before .before .read .kept .1 .0)) (read-same (c .before .before .before .before .before .before .before .before .before .before .args .buf .now) (c .before .before .before .before .before .before .before .read .last .1 .0) (c .before .before .before .before .before .before .before .before .before .before .args .kept) (omega (arith, c .before .before .before .before .before .before .before .before .before .before .pre)) (c .before .before .before .before .before .before .before .read .kept .1 .0)) (omega (arith, c .if2 .left)) (omega (arith, c .before .before .before .before .before .before .before .before .before .before .pre, read-size (c .before .before .before .before .before .before .before .before .before .before .args .buf .now) (c .before .before .before .before .before .before .before .read .last .1 .0) (c .before .before .before .before .before .before .before .before .before .before .args .kept) (omega (arith, c .before .before .before .before .before .before .before .before .before .before .pre)) (c .before .before .before .before .before .before .before .read .kept .1 .0)))
+returns-3 c =
+    let read : tie.After-read = search in
+    let asked : tie.Start = search in
+    behind-over (asked .pre) (read .read .last .1 .0) (read .read .kept .1 .0) (omega (arith, c .if2 .left))
 
 pub read-more-spec : {M : Type 1} → statement M
 read-more-spec =

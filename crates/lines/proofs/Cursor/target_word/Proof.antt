@@ -13,13 +13,19 @@ add-t7 : tie.Need-add-t7
 add-t7 c = search needs
 
 target-requires : tie.Need-target-requires
-target-requires c κs = (c .before .before .before .pre .1 (c .before .before .before .args .self .at) (c .before .before .before .pre .0) (λ e. omega (arith, c .if1 .taken)), c .before .before .before .pre .1)
+target-requires c κs =
+    let lent : tie.Start = search in
+    (lent .pre .1 (lent .args .self .at) (lent .pre .0) (λ e. omega (arith, c .if1 .taken)), lent .pre .1)
 
 returns : tie.Need-returns
-returns c = (c .target .ensures .0 ∙ sym (target-space _ _ (c .before .before .before .before .pre .0) (c .before .if1 .taken)), c .target .ensures .1)
+returns c =
+    let lent : tie.Start = search in
+    (c .target .ensures .0 ∙ sym (target-space _ _ (lent .pre .0) (c .before .if1 .taken)), c .target .ensures .1)
 
 returns-2 : tie.Need-returns-2
-returns-2 c = (sym (target-other _ _ (c .before .before .before .pre .0) (c .if1 .left)), omega (arith, c .before .before .before .pre .0))
+returns-2 c =
+    let lent : tie.Start = search in
+    (sym (target-other _ _ (lent .pre .0) (c .if1 .left)), omega arith)
 
 pub target-word-spec : {M : Type 1} → statement M
 target-word-spec =

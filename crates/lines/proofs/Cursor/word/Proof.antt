@@ -13,13 +13,19 @@ add-t7 : tie.Need-add-t7
 add-t7 c = search needs
 
 number-requires : tie.Need-number-requires
-number-requires c κs = (c .before .before .before .pre .1 (c .before .before .before .args .self .at) (c .before .before .before .pre .0) (λ e. omega (arith, c .if1 .taken)), c .before .before .before .pre .1)
+number-requires c κs =
+    let lent : tie.Start = search in
+    (lent .pre .1 (lent .args .self .at) (lent .pre .0) (λ e. omega (arith, c .if1 .taken)), lent .pre .1)
 
 returns : tie.Need-returns
-returns c = (c .number .ensures .0 ∙ sym (word-space _ _ (c .before .before .before .before .pre .0) (c .before .if1 .taken)), c .number .ensures .1)
+returns c =
+    let lent : tie.Start = search in
+    (c .number .ensures .0 ∙ sym (word-space _ _ (lent .pre .0) (c .before .if1 .taken)), c .number .ensures .1)
 
 returns-2 : tie.Need-returns-2
-returns-2 c = (sym (word-other _ _ (c .before .before .before .pre .0) (c .if1 .left)), omega (arith, c .before .before .before .pre .0))
+returns-2 c =
+    let lent : tie.Start = search in
+    (sym (word-other _ _ (lent .pre .0) (c .if1 .left)), omega arith)
 
 pub word-spec : {M : Type 1} → statement M
 word-spec = tie.close (tie.spec shared-slice-read-if1 add-t7 number-requires returns returns-2)

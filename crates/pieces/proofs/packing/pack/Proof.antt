@@ -3,21 +3,6 @@ use native.Mathlib.Omega.{arith}
 use Rattle.pieces.proofs.packing.pack.Statement.{statement}
 use Rattle.pieces.proofs.packing.pack.Tie as tie
 
-enum-known-answer : tie.Need-enum-known-answer
-enum-known-answer c = c .match .keys1
-
-join-requires : tie.Need-join-requires
-join-requires c κs = tt
-
-enum-known-answer-2 : tie.Need-enum-known-answer-2
-enum-known-answer-2 c = c .match .keys2
-
-refusal-number-requires : tie.Need-refusal-number-requires
-refusal-number-requires c κs = tt
-
-join-requires-2 : tie.Need-join-requires-2
-join-requires-2 c κs = tt
-
 returns : tie.Need-returns
 returns c = rw (c .before .before .answer .given .1) (c .join .ensures)
 
@@ -28,10 +13,10 @@ pub pack-spec : {M : Type 1} → statement M
 pack-spec =
     tie.close
     (tie.spec
-    enum-known-answer
-    join-requires
-    enum-known-answer-2
-    refusal-number-requires
-    join-requires-2
+    (λ c. c .match .keys1)
+    (λ c κs. tt)
+    (λ c. c .match .keys2)
+    (λ c κs. tt)
+    (λ c κs. tt)
     returns
     returns-2)

@@ -3,17 +3,8 @@ use native.Mathlib.Omega.{arith}
 use Rattle.pieces.proofs.packing.pack_seen.Statement.{statement}
 use Rattle.pieces.proofs.packing.pack_seen.Tie as tie
 
-enum-known-seen : tie.Need-enum-known-seen
-enum-known-seen c = c .match .keys1
-
 join-seen-requires : tie.Need-join-seen-requires
 join-seen-requires c κs = let f = rw (c .before .seen .given .1) at (c .before .before .before .pre) in (f .count, f .holds)
-
-enum-known-seen-2 : tie.Need-enum-known-seen-2
-enum-known-seen-2 c = c .match .keys2
-
-refusal-number-requires : tie.Need-refusal-number-requires
-refusal-number-requires c κs = tt
 
 join-seen-requires-2 : tie.Need-join-seen-requires-2
 join-seen-requires-2 c κs = (omega arith, omega arith)
@@ -28,10 +19,10 @@ pub pack-seen-spec : {M : Type 1} → statement M
 pack-seen-spec =
     tie.close
     (tie.spec
-    enum-known-seen
+    (λ c. c .match .keys1)
     join-seen-requires
-    enum-known-seen-2
-    refusal-number-requires
+    (λ c. c .match .keys2)
+    (λ c κs. tt)
     join-seen-requires-2
     returns
     returns-2)

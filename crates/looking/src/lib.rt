@@ -1,0 +1,48 @@
+// Look on sound tables: what a piece is, and nothing changes.
+ghost use mathlib.Core.List.{[]};
+ghost use Rattle.rules.specs.Tables.{storeOf};
+ghost use Rattle.rules.specs.Calls.{Ready, Did, saw, effect};
+ghost use Rattle.rules.specs.declared.Command.the-variants.{Look};
+use rules::Refusal;
+use rules::Seen;
+use rules::Store;
+
+// State, leader, count of its group, holds of P; for a draft 1, none, 0, 0.
+pub fn look(
+    n: usize,
+    states: &[u8],
+    links: &[u16],
+    leaders: &[u16],
+    holds: &[u16],
+    counts: &[u32],
+    p: u16,
+) -> Seen
+    requires { ⌜ Ready (storeOf n (now states) (now links) (now leaders) (now holds) (now counts)) ⌝ }
+    ensures { λ r. ⌜ Did (Look p) (storeOf n (now (states .entry)) (now (links .entry)) (now (leaders .entry)) (now (holds .entry)) (now (counts .entry))) []
+        (effect (saw r) (storeOf n (now (states .entry)) (now (links .entry)) (now (leaders .entry)) (now (holds .entry)) (now (counts .entry))) []) ⌝ }
+{
+    let q = p as usize;
+    if n <= q {
+        return Seen::Unseen(Refusal::Number);
+    }
+    let state = states[q];
+    if state == Store::FREE {
+        return Seen::Unseen(Refusal::Free);
+    }
+    let leader = leaders[q];
+    let l = leader as usize;
+    if n <= l {
+        return Seen::Piece {
+            state: state,
+            leader: leader,
+            count: 0,
+            holds: holds[q],
+        };
+    }
+    Seen::Piece {
+        state: state,
+        leader: leader,
+        count: counts[l],
+        holds: holds[q],
+    }
+}
