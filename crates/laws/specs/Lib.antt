@@ -5,7 +5,6 @@ pub mod Reach
 pub mod Words
 pub mod Sound
 pub mod Settle
-pub mod Rows
 pub mod Passes
 pub mod Edits
 pub mod Commands
