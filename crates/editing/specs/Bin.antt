@@ -13,7 +13,7 @@ use Rattle.rules.specs.Tests.{pick}
 use Rattle.rules.specs.Limits.{none}
 use Rattle.rules.specs.Below.{table, sum}
 use Rattle.rules.specs.Lists.{Among, first, later, _!_}
-use Rattle.rules.specs.Tables.{Base, Store, state, isFree, isFrozen, holdsOf}
+use Rattle.rules.specs.Tables.{baseOf, Base, Store, state, isFree, isFrozen, holdsOf}
 use Rattle.rules.specs.Words.{Frozen, Well}
 use Rattle.rules.specs.Commands.{freeAll, withStates, withLinks, edit, settles, valueOf}
 use Rattle.rules.specs.Calls.{answered, effect, acceptedBy, doneBy, Ready, Did}
@@ -175,7 +175,7 @@ module _ {s : Store} {list : List ℕ} {p : ℕ} (g : Binning s list p) where
 
     base-is : e₁ ≡ e
     unfolding freeAll withLinks withStates
-    base-is = λ i. record { n = b .n; states = states-are i; links = links-are i; holds = holds-are i }
+    base-is = λ i. baseOf (b .n) (states-are i) (links-are i) (holds-are i)
 
     begin-bin : Begin e₁ (s .leaders) counts₁ list
     unfolding withLinks withStates

@@ -8,7 +8,7 @@ use lib.ListN.{length, set, length-set}
 use lib.Seq.{getD-set-other}
 use Rattle.rules.specs.Tests.{_&_}
 use Rattle.rules.specs.Limits.{none}
-use Rattle.rules.specs.Tables.{Base, Store, state, isFree, isDraft, isFrozen, linkAt, holdsOf}
+use Rattle.rules.specs.Tables.{storeOn, Base, Store, state, isFree, isDraft, isFrozen, linkAt, holdsOf}
 use Rattle.rules.specs.Words.{Frozen, Well}
 use Rattle.rules.specs.Lists.{first, _!_}
 use Rattle.rules.specs.Commands.{atLimit, notHeld, edit, withHolds, oneMore, oneLess, after, settles, freedBy, valueOf, nextStore}
@@ -42,7 +42,7 @@ leads s p = s .leaders ! p
 -- the store where p has h holds and its leader the count c
 abbrev withHold : Store → ℕ → ℕ → ℕ → Store
 withHold s p h c =
-    record { base = withHolds (s .base) (set (s .base .holds) p h); leaders = s .leaders; counts = set (s .counts) (leads s p) c }
+    storeOn (withHolds (s .base) (set (s .base .holds) p h)) (s .leaders) (set (s .counts) (leads s p) c)
 
 module _ {s : Store} {p : ℕ} (o : Ready s) (below : p < s .base .n) (live : s .base .states ! p ≡ 0 → ⊥) (other : s .base .states ! p ≡ 1 → ⊥) where
   abbrev b : Base

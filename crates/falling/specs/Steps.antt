@@ -8,7 +8,7 @@ use lib.ListN.{set}
 use lib.Seq.{getD-set-other}
 use Rattle.rules.specs.Lists.{_!_}
 use Rattle.rules.specs.Limits.{none}
-use Rattle.rules.specs.Tables.{Base, linkAt}
+use Rattle.rules.specs.Tables.{baseOf, Base, linkAt}
 use Rattle.rules.specs.Words.{Frozen}
 use Rattle.laws.specs.Passes.{frozen-of}
 use Rattle.tallies.specs.Sums.{getD-any}
@@ -20,7 +20,7 @@ use Rattle.falling.specs.Erasing.{erase-in, erase-out, had, past-next, c
 
 -- the tables of e at capacity n
 abbrev pub ofCapacity : ℕ → Base → Base
-ofCapacity n e = record { n = n; states = e .states; links = e .links; holds = e .holds }
+ofCapacity n e = baseOf n (e .states) (e .links) (e .holds)
 
 -- a letting go is under way
 pub record Going (n : ℕ) (leaders states links counts queue : List ℕ) (m tail : ℕ) : Type 0 where

@@ -11,7 +11,7 @@ use lib.Seq.{ext-getD}
 use Rattle.rules.specs.Tests.{_&_, pick}
 use Rattle.rules.specs.Limits.{none}
 use Rattle.rules.specs.Below.{table}
-use Rattle.rules.specs.Tables.{Base, Store, state, isDraft, isFrozen, linkAt, reaches, finish, storeOf}
+use Rattle.rules.specs.Tables.{storeOn, Base, Store, state, isDraft, isFrozen, linkAt, reaches, finish, storeOf}
 use Rattle.rules.specs.Words.{Frozen, Reaches, Leader}
 use Rattle.rules.specs.Commands.{oneMore, freezeFirst, edit, settles, after, nextStore}
 use Rattle.rules.specs.declared.Command.the-variants.{Freeze}
@@ -160,7 +160,7 @@ module _ {s : Store} {work : List ℕ} {p : ℕ} (d : Freezable s work p) where
     unfolding nextStore b′ freezeFirst
     frozen {counts′} z c = tables ∙ finished b′ leaders′ exact′ (good′ .wells) counts′ z c ∙ ap finish (sym after-is)
       where
-        tables : storeOf n states′ (b .links) leaders′ (set (b .holds) p 1) counts′ ≡ record { base = b′; leaders = leaders′; counts = counts′ }
+        tables : storeOf n states′ (b .links) leaders′ (set (b .holds) p 1) counts′ ≡ storeOn b′ leaders′ counts′
         tables = ap (λ (x : List ℕ). storeOf n x (b .links) leaders′ (set (b .holds) p 1) counts′) states-are
 
         after-is : after b (Freeze p) ≡ freezeFirst b p

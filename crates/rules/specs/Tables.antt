@@ -26,9 +26,13 @@ pub record Store : Type 0 where
 abbrev pub baseOf : ℕ → List ℕ → List ℕ → List ℕ → Base
 baseOf n states links holds = record { n = n; states = states; links = links; holds = holds }
 
+-- the store of what is told, with what follows from it
+abbrev pub storeOn : Base → List ℕ → List ℕ → Store
+storeOn base leaders counts = record { base = base; leaders = leaders; counts = counts }
+
 -- the tables in the rulebook's order
 abbrev pub storeOf : ℕ → List ℕ → List ℕ → List ℕ → List ℕ → List ℕ → Store
-storeOf n states links leaders holds counts = record { base = baseOf n states links holds; leaders = leaders; counts = counts }
+storeOf n states links leaders holds counts = storeOn (baseOf n states links holds) leaders counts
 
 module _ (b : Base) where
   unfoldable pub state : ℕ → ℕ
@@ -91,7 +95,7 @@ module _ (b : Base) where
 
   -- the store with these states, links and holds
   unfoldable pub finish : Store
-  finish = record { base = b; leaders = table leaderEntry (b .n); counts = table countEntry (b .n) }
+  finish = storeOn b (table leaderEntry (b .n)) (table countEntry (b .n))
 
   -- f at each of the four links of p
   unfoldable pub allFour : ℕ → (ℕ → Bool) → Bool
