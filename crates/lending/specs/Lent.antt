@@ -1,5 +1,5 @@
 -- What a lent trace gives: the output in the room, then zeros, or a refusal's number.
-use mathlib.Core.Path.{_≡_, refl, sym, ap, _∙_, subst}
+use mathlib.Core.Path.{_≡_, sym, ap, _∙_, subst}
 use mathlib.Core.Bool.{not}
 use mathlib.Core.List.{List, [], _++_}
 use Prim.Native.Nat.{ℕ, _+_, _-_, _^_, _≤_, _<_}
@@ -13,7 +13,7 @@ use Rattle.rules.specs.Calls.{numberOf, Ready}
 use Rattle.rules.specs.Trace.{linesFrom, outputOf, Given, inRoom}
 use Rattle.rules.specs.declared.Refusal.the-variants.{Room}
 use Rattle.laws.specs.Below.{pick-true, pick-false}
-use Rattle.reader.specs.Ended.{LastLine}
+use Rattle.reader.specs.Ended.{LastLine, last-line}
 use Rattle.reader.specs.Fed.{wrote-front}
 use Rattle.lending.specs.declared.Place.{Place}
 use Rattle.lending.specs.declared.Place.the-variants.{Full, Written}
@@ -92,5 +92,5 @@ module _ {n : ℕ} {s₀ : Store} {text room : List ℕ} {s : Store} {l w room�
     pub lent-all : {out out′ : List ℕ} {k r : ℕ} {room₂ : List ℕ} → LastLine (s .base .n) (s .base .states) (s .leaders) out 0 out′ k → k ≤ length out
         → given r room₂ ≡ inRoom (take size room₁ ++ take k out′) room₁ → given r room₂ ≡ inRoom (outputOf s₀ (linesFrom [] text)) room
     lent-all {out} {out′} {k} x h y =
-        y ∙ ap (λ (t : List ℕ). inRoom t room₁) (ap (λ (t : List ℕ). take size room₁ ++ t) (wrote-front (x .wrote s refl refl refl) h) ∙ sym (written .2))
+        y ∙ ap (λ (t : List ℕ). inRoom t room₁) (ap (λ (t : List ℕ). take size room₁ ++ t) (wrote-front (last-line (written .1) x) h) ∙ sym (written .2))
         ∙ same-room (outputOf s₀ (linesFrom [] text)) room room₁ same
