@@ -1,3 +1,4 @@
 pub mod Served
+pub mod Came
 pub mod Turned
 pub mod Started

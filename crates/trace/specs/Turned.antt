@@ -1,19 +1,17 @@
 -- One turn: a chunk is read behind the bytes that are kept, the whole lines are answered, and the rest is kept.
 use mathlib.Core.Path.{_≡_, sym, ap, _∙_, subst}
 use mathlib.Core.Bool.{Bool, true, false}
-use mathlib.Core.List.{List, [], _∷_, _++_}
+use mathlib.Core.List.{List, [], _++_}
 use Prim.Native.Nat.{ℕ, _+_, _-_, _≤_, _<_}
 use native.Mathlib.Omega.{arith}
-use native.Mathlib.Numerals.{add-one}
-use lib.ListN.{length, getD, take, drop, set, length-drop, length-take, length-set}
-use lib.Seq.{getD-drop, getD-take, length-take-le, take-add, take-take, take-suc-set}
-use borrow.Rule.Slice.PartMut.{midOf, putMid, same-len-mid, take-put}
+use lib.ListN.{length, getD, take, drop, length-drop, length-take}
+use lib.Seq.{getD-drop, getD-take, length-take-le, take-add, take-take}
 use Rattle.rules.specs.Limits.{most}
 use Rattle.rules.specs.Tables.{Store}
 use Rattle.rules.specs.Calls.{Ready}
 use Rattle.lines.specs.Ending.{Unended, Closed}
 use Rattle.chunks.specs.Short.{enough}
-use Rattle.chunks.specs.Says.{Says, says-more, says-behind, says-cut, closing, closing-some, closing-last}
+use Rattle.chunks.specs.Says.{Says, says-more, says-behind, says-cut, closing, closing-last}
 use Rattle.reader.specs.Answered.{Stands}
 use Rattle.reader.specs.Lines.{NoEnd, Whole, whole-all}
 use Rattle.carrying.specs.Carried.{Carried, restOf}
@@ -23,13 +21,7 @@ use Rattle.trace.specs.declared.Lines.the-variants.{Written, Unwritten}
 use Rattle.trace.specs.declared.Next.{Next}
 use Rattle.trace.specs.declared.Next.the-variants as next
 use Rattle.trace.specs.Served.{Serves, Served}
-
--- bytes stand behind the first `kept`, up to `end`; at the end of the input byte 10, if any are kept
-pub record Behind (before : List ℕ) (kept : ℕ) (after : List ℕ) (end : ℕ) (last : Bool) : Type 0 where
-  pub size : length after ≡ length before
-  pub inside : end ≤ length after
-  pub on : last ≡ false → (kept ≤ end) × (take kept after ≡ take kept before)
-  pub over : last ≡ true → take end after ≡ closing (take kept before)
+use Rattle.trace.specs.Came.{Behind}
 
 -- the store stands, and a line without end is kept, or its first 65 bytes
 pub record Keeps (s : Store) (l w buf : List ℕ) (kept from : ℕ) : Type 0 where
@@ -42,6 +34,7 @@ pub record Keeps (s : Store) (l w buf : List ℕ) (kept from : ℕ) : Type 0 whe
 abbrev pub Turns : Store → List ℕ → Store → List ℕ → List ℕ → List ℕ → Next → Type 0
 Turns s before s′ l′ w′ buf′ (next.More kept from) = Keeps s′ l′ w′ buf′ kept from × Went s before s′ (take kept buf′)
 Turns s before s′ l′ w′ buf′ next.Ended = Ready s′ × Over s before s′
+Turns s before s′ l′ w′ buf′ next.Unread = Ready s′
 Turns s before s′ l′ w′ buf′ next.Unwritten = Ready s′
 
 pub record Turned (s : Store) (before : List ℕ) (s′ : Store) (l′ w′ buf′ : List ℕ) (r : Next) : Type 0 where
@@ -49,66 +42,9 @@ pub record Turned (s : Store) (before : List ℕ) (s′ : Store) (l′ w′ buf�
 
 -- ---- laws
 
-not-so : {A : Type 0} → false ≡ true → A
-not-so e = absurd (let z : _≡_ {A = ℕ} 0 1 = cc e in omega arith)
-
--- ---- what was read stands in the place of the part behind the kept bytes
-
-module _ (before part : List ℕ) (kept : ℕ) where
-  -- the buffer with the part in its place
-  abbrev filled : List ℕ
-  filled = putMid kept (length before - kept) before part
-
-  module _ (h : kept < length before) (e : length part ≡ length (midOf kept (length before - kept) before)) where
-    filled-size : length filled ≡ length before
-    filled-size = same-len-mid kept (length before - kept) before part e
-
-    filled-same : take kept filled ≡ take kept before
-    filled-same = take-put kept (length before - kept) before part (omega arith)
-
-module _ {before : List ℕ} {kept : ℕ} (h : kept < length before) (part : List ℕ) (e : length part ≡ length (midOf kept (length before - kept) before)) where
-  -- r bytes were read
-  pub behind-on : {r : ℕ} → r ≤ length (midOf kept (length (filled before part kept) - kept) (filled before part kept))
-      → Behind before kept (filled before part kept) (kept + r) false
-  behind-on {r} g = record {
-    size = size;
-    inside = omega (arith, size, length-take (length after - kept) (drop kept after), length-drop kept after);
-    on = λ _. (omega arith, filled-same before part kept h e);
-    over = λ x. not-so x;
-  }
-    where
-      after : List ℕ
-      after = filled before part kept
-
-      size : length after ≡ length before
-      size = filled-size before part kept h e
-
-  -- none, and none are kept
-  pub behind-none : kept ≡ 0 → Behind before kept (filled before part kept) 0 true
-  behind-none x = record {
-    size = filled-size before part kept h e;
-    inside = omega arith;
-    on = λ y. not-so (sym y);
-    over = λ _. ap (λ (k : ℕ). closing (take k before)) (sym x);
-  }
-
-  -- none, and byte 10 ends the line that is kept
-  pub behind-over : 0 < kept → Behind before kept (set (filled before part kept) kept 10) (kept + 1) true
-  behind-over p = record {
-    size = length-set after kept 10 ∙ size;
-    inside = omega (arith, length-set after kept 10, size);
-    on = λ y. not-so (sym y);
-    over = λ _.
-        ap (λ (k : ℕ). take k (set after kept 10)) (add-one kept) ∙ take-suc-set after kept 10 (omega (arith, size))
-        ∙ ap (λ (t : List ℕ). t ++ (10 ∷ [])) (filled-same before part kept h e)
-        ∙ sym (closing-some (take kept before) (omega (arith, length-take-le kept before (omega arith))));
-  }
-    where
-      after : List ℕ
-      after = filled before part kept
-
-      size : length after ≡ length before
-      size = filled-size before part kept h e
+-- the input could not be read: nothing is answered
+pub turned-unread : {s : Store} {l w buf : List ℕ} {kept from : ℕ} → Keeps s l w buf kept from → {buf′ : List ℕ} → Turned s (take kept buf) s l w buf′ next.Unread
+turned-unread k = record { is = k .stands .ready }
 
 -- ---- the whole lines are answered
 

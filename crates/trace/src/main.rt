@@ -9,7 +9,8 @@ ghost use Rattle.answers.specs.Wrote.{longest};
 ghost use Rattle.reader.specs.Answered.{Stands};
 ghost use Rattle.carrying.specs.Sofar.{Finished};
 ghost use Rattle.trace.specs.Served.{Served};
-ghost use Rattle.trace.specs.Turned.{Behind, Keeps, Turned};
+ghost use Rattle.trace.specs.Came.{Came};
+ghost use Rattle.trace.specs.Turned.{Keeps, Turned};
 use libc::STDERR_FILENO;
 use libc::STDIN_FILENO;
 use libc::STDOUT_FILENO;
@@ -67,32 +68,46 @@ fn serve(
     Lines::Written(low)
 }
 
-// Where the bytes to answer end, and whether the input is over.
+// Where the bytes to answer end, whether the input is over, and whether it could not be read.
 struct Chunk {
     end: usize,
     last: bool,
+    failed: bool,
 }
 
-// Reads once behind the bytes that are kept. Where none come, at the end of the input or where a read fails, byte 10 ends a line that is kept.
+// Reads once behind the bytes that are kept. Where none come, at the end of the input, byte 10 ends a line that is kept.
 fn read_more(buf: &mut [u8], kept: usize) -> Chunk
     requires { ⌜ kept < length (now buf) ⌝ }
-    ensures { λ r. ⌜ Behind (now (buf .entry)) kept (now (buf .exit)) (r .end) (r .last) ⌝ }
+    ensures { λ r. ⌜ Came (now (buf .entry)) kept (now (buf .exit)) (r .end) (r .last) (r .failed) ⌝ }
 {
     let got = libc::read(STDIN_FILENO, &mut buf[kept..]);
+    if got < 0 {
+        return Chunk {
+            end: kept,
+            last: true,
+            failed: true,
+        };
+    }
     let size = io::count(got, &buf[kept..]);
     if 0 < size {
         return Chunk {
             end: kept + size,
             last: false,
+            failed: false,
         };
     }
     if kept == 0 {
-        return Chunk { end: 0, last: true };
+        return Chunk {
+            end: 0,
+            last: true,
+            failed: false,
+        };
     }
     buf[kept] = 10;
     Chunk {
         end: kept + 1,
         last: true,
+        failed: false,
     }
 }
 
@@ -102,6 +117,8 @@ enum Next {
     More { kept: usize, from: usize },
     // The input is over, and all answers are written.
     Ended,
+    // The input could not be read further; what is kept is not answered.
+    Unread,
     // Not all could be written.
     Unwritten,
 }
@@ -126,6 +143,9 @@ fn turn(
         (storeOf most (now (states .exit)) (now (links .exit)) (now (leaders .exit)) (now (holds .exit)) (now (counts .exit))) (now (list .exit)) (now (work .exit)) (now (buf .exit)) r ⌝ }
 {
     let chunk = read_more(buf, kept);
+    if chunk.failed {
+        return Next::Unread;
+    }
     let end = chunk.end;
     let whole = reader::whole(&buf[..end]);
     let lines = serve(
@@ -153,7 +173,17 @@ fn turn(
     }
 }
 
-// Writes the last line of the output, where all that was read is answered.
+// Says on standard error that the input could not be read.
+fn say_unread() {
+    io::write_all(STDERR_FILENO, b"trace: the input cannot be read\n");
+}
+
+// Says on standard error that not all answers could be written.
+fn say_unwritten() {
+    io::write_all(STDERR_FILENO, b"trace: the answers cannot be written\n");
+}
+
+// Writes the last line of the output, where the whole input is answered.
 fn finish(
     states: &[u8],
     links: &[u16],
@@ -166,10 +196,12 @@ fn finish(
         × Finished most (storeOf most (now states) (now links) (now leaders) (now holds) (now counts)) × (64 ≤ length (now out)) ⌝ }
 {
     let size = reader::close(Store::MOST, states, leaders, out, 0);
-    io::write_all(STDOUT_FILENO, &out[..size]);
+    if !io::write_all(STDOUT_FILENO, &out[..size]) {
+        say_unwritten();
+    }
 }
 
-// Answers the whole trace.
+// Answers the whole trace; where not all can be read or written, it says so and writes no last line.
 fn run() {
     let mut states = [0u8; 1024];
     let mut links = [65535u16; 4096];
@@ -210,7 +242,12 @@ fn run() {
                 finish(&states, &links, &leaders, &holds, &counts, &mut out);
                 return;
             }
+            Next::Unread => {
+                say_unread();
+                return;
+            }
             Next::Unwritten => {
+                say_unwritten();
                 return;
             }
         }

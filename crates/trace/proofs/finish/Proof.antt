@@ -19,11 +19,20 @@ slice-aggregate-write-all c =
 write-all-requires : tie.Need-write-all-requires
 write-all-requires c κs = search needs
 
+say-unwritten-requires : tie.Need-say-unwritten-requires
+say-unwritten-requires c κs = search needs
+
 same-length : tie.Need-same-length
 same-length c = search needs
 
 returns : tie.Need-returns
 returns c = search needs
+
+same-length-2 : tie.Need-same-length-2
+same-length-2 c = search needs
+
+returns-2 : tie.Need-returns-2
+returns-2 c = search needs
 
 pub finish-spec : {M : Type 1} → statement M
 finish-spec =
@@ -33,5 +42,8 @@ finish-spec =
     slice-reshare-prefix-write-all
     slice-aggregate-write-all
     write-all-requires
+    say-unwritten-requires
     same-length
-    returns)
+    returns
+    same-length-2
+    returns-2)

@@ -78,11 +78,23 @@ returns c = tt
 enum-told-2 : tie.Need-enum-told-2 Inv-loop μ-loop
 enum-told-2 c = search needs
 
+say-unread-requires : tie.Need-say-unread-requires Inv-loop μ-loop
+say-unread-requires c κs = tt
+
 returns-2 : tie.Need-returns-2 Inv-loop μ-loop
 returns-2 c = tt
 
+enum-told-3 : tie.Need-enum-told-3 Inv-loop μ-loop
+enum-told-3 c = search needs
+
+say-unwritten-requires : tie.Need-say-unwritten-requires Inv-loop μ-loop
+say-unwritten-requires c κs = tt
+
 returns-3 : tie.Need-returns-3 Inv-loop μ-loop
 returns-3 c = tt
+
+returns-4 : tie.Need-returns-4 Inv-loop μ-loop
+returns-4 c = tt
 
 pub run-spec : {M : Type 1} → statement M
 run-spec =
@@ -115,5 +127,9 @@ run-spec =
     finish-requires
     returns
     enum-told-2
+    say-unread-requires
     returns-2
-    returns-3)
+    enum-told-3
+    say-unwritten-requires
+    returns-3
+    returns-4)

@@ -2,7 +2,7 @@
 use mathlib.Core.Path.{sym}
 use native.Mathlib.Omega.{arith}
 use lib.Seq.{length-take-le}
-use Rattle.trace.specs.Turned.{whole-inside, whole-fits, whole-closed, turned-stop, turned-over, turned-on}
+use Rattle.trace.specs.Turned.{whole-inside, whole-fits, whole-closed, turned-unread, turned-stop, turned-over, turned-on}
 use borrow.Author.Needs.{needs}
 use Rattle.trace.proofs.turn.Statement.{statement}
 use Rattle.trace.proofs.turn.Tie as tie
@@ -10,33 +10,50 @@ use Rattle.trace.proofs.turn.Tie as tie
 read-more-requires : tie.Need-read-more-requires
 read-more-requires c κs = search needs
 
+returns : tie.Need-returns
+returns c =
+    let asked : tie.Start = search in
+    turned-unread (asked .pre .0)
+
+-- places: what was read, where it did not fail, and the start
+read : tie.Else1 → tie.After-read-more
+read c = search
+
+asked : tie.After-read-more → tie.Start
+asked c = search
+
 slice-reshare-prefix-whole : tie.Need-slice-reshare-prefix-whole
-slice-reshare-prefix-whole c = search needs
+unfolding read
+slice-reshare-prefix-whole c = read c .read-more .ensures .behind (c .if1 .left) .inside
 
 slice-aggregate-whole : tie.Need-slice-aggregate-whole
+unfolding read
 slice-aggregate-whole c =
-    let read : tie.After-read-more = search in
-    sym (length-take-le (read .read-more .result .end) _ (read .read-more .ensures .inside))
+    let came : tie.Else1 = search in
+    sym (length-take-le (read came .read-more .result .end) _ (read came .read-more .ensures .behind (came .if1 .left) .inside))
 
 whole-requires : tie.Need-whole-requires
 whole-requires c κs = search needs
 
 slice-reshare-prefix-serve : tie.Need-slice-reshare-prefix-serve
+unfolding read
 slice-reshare-prefix-serve c =
-    let read : tie.After-read-more = search in
-    whole-fits (read .read-more .ensures) (c .whole .ensures)
+    let came : tie.Else1 = search in
+    whole-fits (read came .read-more .ensures .behind (came .if1 .left)) (c .whole .ensures)
 
 slice-aggregate-serve : tie.Need-slice-aggregate-serve
+unfolding read
 slice-aggregate-serve c =
-    let read : tie.After-read-more = search in
-    sym (length-take-le (c .before .whole .result) _ (whole-fits (read .read-more .ensures) (c .before .whole .ensures)))
+    let came : tie.Else1 = search in
+    sym (length-take-le (c .before .whole .result) _ (whole-fits (read came .read-more .ensures .behind (came .if1 .left)) (c .before .whole .ensures)))
 
 serve-requires : tie.Need-serve-requires
+unfolding read asked
 serve-requires c κs =
     let lines : tie.After-whole = search in
-    let read : tie.After-read-more = search in
-    let asked : tie.Start = search in
-    (asked .pre .0 .stands, whole-closed (read .read-more .ensures) (lines .whole .ensures), asked .pre .2)
+    let came : tie.Else1 = search in
+    let start = asked (read came) in
+    (start .pre .0 .stands, whole-closed (read came .read-more .ensures .behind (came .if1 .left)) (lines .whole .ensures), start .pre .2)
 
 enum-known-lines : tie.Need-enum-known-lines
 enum-known-lines c = search needs
@@ -44,14 +61,14 @@ enum-known-lines c = search needs
 enum-told : tie.Need-enum-told
 enum-told c = search needs
 
--- places: the lines are served, on the way to each return; what was whole and what was read before, and the start
+-- places: the lines are served, on the way to each return; what was whole and what came before
 unwritten : tie.After-enum-told → tie.After-serve
 unwritten c = search
 
-ended : tie.Then1 → tie.After-serve
+ended : tie.Then2 → tie.After-serve
 ended c = search
 
-more : tie.Else1 → tie.After-serve
+more : tie.Else2 → tie.After-serve
 more c = search
 
 carried : tie.After-carry → tie.After-serve
@@ -60,41 +77,43 @@ carried c = search
 lines : tie.After-serve → tie.After-whole
 lines c = search
 
-read : tie.After-serve → tie.After-read-more
-read c = search
-
-asked : tie.After-read-more → tie.Start
-asked c = search
-
-returns : tie.Need-returns
-unfolding unwritten lines read
-returns c =
-    turned-stop (read (unwritten c) .read-more .ensures) (lines (unwritten c) .whole .ensures) (unwritten c .serve .ensures)
-    (c .enum-told .given .1)
+came : tie.After-serve → tie.Else1
+came c = search
 
 returns-2 : tie.Need-returns-2
-unfolding ended lines read asked
+unfolding unwritten lines came read
 returns-2 c =
-    turned-over (read (ended c) .read-more .ensures) (lines (ended c) .whole .ensures) (ended c .serve .ensures)
-    (c .before .before .lines .given .1) (asked (read (ended c)) .pre .0) (c .if1 .taken)
-
-carry-requires : tie.Need-carry-requires
-unfolding more lines read
-carry-requires c κs =
-    (whole-inside (read (more (c .before)) .read-more .ensures) (lines (more (c .before)) .whole .ensures), read (more (c .before)) .read-more .ensures .inside)
+    turned-stop (read (came (unwritten c)) .read-more .ensures .behind (came (unwritten c) .if1 .left)) (lines (unwritten c) .whole .ensures)
+    (unwritten c .serve .ensures) (c .enum-told .given .1)
 
 returns-3 : tie.Need-returns-3
-unfolding carried lines read
+unfolding ended lines came read asked
 returns-3 c =
-    let test : tie.Else1 = search in
-    turned-on (read (carried (c .before .before)) .read-more .ensures) (lines (carried (c .before .before)) .whole .ensures)
-    (carried (c .before .before) .serve .ensures) (test .before .before .lines .given .1) (test .if1 .left) (c .before .before .carry .ensures)
+    turned-over (read (came (ended c)) .read-more .ensures .behind (came (ended c) .if1 .left)) (lines (ended c) .whole .ensures)
+    (ended c .serve .ensures) (c .before .before .lines .given .1) (asked (read (came (ended c))) .pre .0) (c .if2 .taken)
+
+carry-requires : tie.Need-carry-requires
+unfolding more lines came read
+carry-requires c κs =
+    let test = came (more (c .before)) in
+    let behind = read test .read-more .ensures .behind (test .if1 .left) in
+    (whole-inside behind (lines (more (c .before)) .whole .ensures), behind .inside)
+
+returns-4 : tie.Need-returns-4
+unfolding carried lines came read
+returns-4 c =
+    let test : tie.Else2 = search in
+    turned-on (read (came (carried (c .before .before))) .read-more .ensures .behind (came (carried (c .before .before)) .if1 .left))
+    (lines (carried (c .before .before)) .whole .ensures) (carried (c .before .before) .serve .ensures)
+    (test .before .before .lines .given .1) (test .if2 .left) (c .before .before .carry .ensures)
 
 pub turn-spec : {M : Type 1} → statement M
 turn-spec =
     tie.close
     (tie.spec
     read-more-requires
+    (λ c. let read : tie.After-read-more = search in read .read-more .kept .0)
+    returns
     slice-reshare-prefix-whole
     slice-aggregate-whole
     whole-requires
@@ -103,7 +122,7 @@ turn-spec =
     serve-requires
     enum-known-lines
     enum-told
-    (λ c. unfold unwritten read in (read (unwritten c) .read-more .kept .0))
+    (λ c. unfold unwritten came read in (read (came (unwritten c)) .read-more .kept .0))
     (λ c. unfold unwritten in (omega (arith, unwritten c .serve .kept)))
     (λ c. unfold unwritten in (omega (arith, unwritten c .serve .kept)))
     (λ c. unfold unwritten in (omega (arith, unwritten c .serve .kept)))
@@ -112,19 +131,19 @@ turn-spec =
     (λ c. unfold unwritten in (omega (arith, unwritten c .serve .kept)))
     (λ c. unfold unwritten in (omega (arith, unwritten c .serve .kept)))
     (λ c. unfold unwritten in (omega (arith, unwritten c .serve .kept)))
-    returns
-    (λ c. unfold ended read in (read (ended c) .read-more .kept .0))
-    (λ c. unfold ended in (omega (arith, ended c .serve .kept)))
-    (λ c. unfold ended in (omega (arith, ended c .serve .kept)))
-    (λ c. unfold ended in (omega (arith, ended c .serve .kept)))
-    (λ c. unfold ended in (omega (arith, ended c .serve .kept)))
-    (λ c. unfold ended in (omega (arith, ended c .serve .kept)))
-    (λ c. unfold ended in (omega (arith, ended c .serve .kept)))
-    (λ c. unfold ended in (omega (arith, ended c .serve .kept)))
-    (λ c. unfold ended in (omega (arith, ended c .serve .kept)))
     returns-2
+    (λ c. unfold ended came read in (read (came (ended c)) .read-more .kept .0))
+    (λ c. unfold ended in (omega (arith, ended c .serve .kept)))
+    (λ c. unfold ended in (omega (arith, ended c .serve .kept)))
+    (λ c. unfold ended in (omega (arith, ended c .serve .kept)))
+    (λ c. unfold ended in (omega (arith, ended c .serve .kept)))
+    (λ c. unfold ended in (omega (arith, ended c .serve .kept)))
+    (λ c. unfold ended in (omega (arith, ended c .serve .kept)))
+    (λ c. unfold ended in (omega (arith, ended c .serve .kept)))
+    (λ c. unfold ended in (omega (arith, ended c .serve .kept)))
+    returns-3
     carry-requires
-    (λ c. unfold carried read in (omega (arith, c .before .before .carry .kept, read (carried (c .before .before)) .read-more .kept)))
+    (λ c. unfold carried came read in (omega (arith, c .before .before .carry .kept, read (came (carried (c .before .before))) .read-more .kept)))
     (λ c. unfold carried in (omega (arith, carried (c .before .before) .serve .kept)))
     (λ c. unfold carried in (omega (arith, carried (c .before .before) .serve .kept)))
     (λ c. unfold carried in (omega (arith, carried (c .before .before) .serve .kept)))
@@ -133,4 +152,4 @@ turn-spec =
     (λ c. unfold carried in (omega (arith, carried (c .before .before) .serve .kept)))
     (λ c. unfold carried in (omega (arith, carried (c .before .before) .serve .kept)))
     (λ c. unfold carried in (omega (arith, carried (c .before .before) .serve .kept)))
-    returns-3)
+    returns-4)
