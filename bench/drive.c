@@ -17,23 +17,26 @@
 #define CALLGRIND_DUMP_STATS_AT(name) (void)name
 #endif
 
-enum { LARGEST = PIECES_MOST, NONE = PIECES_NONE, SAMPLES = 201 };
-enum { EMPTY, DRAFTS, TREE, CHAIN, DAG, RINGS, DOUBLY, LOOP, SHAPES };
-enum { START, NEW, SET, FREEZE, ACQUIRE, RELEASE, RELEASE_ALL, BIN, LOOK, CHECK, CALLS };
+enum { LARGEST = PIECES_MOST, NONE = PIECES_NONE, REGISTER = 3 * PIECES_LINES, SAMPLES = 201 };
+enum { EMPTY, DRAFTS, TREE, CHAIN, DAG, RINGS, SEATED, DOUBLY, LOOP, SHAPES };
+enum {
+    START, NEW, SET, FREEZE, ACQUIRE, ACQUIRE_LINE, RELEASE, RELEASE_ALL, BIN, LOOK, CHECK, CALLS
+};
 
 static const char *const shape_names[] = {
-    "empty", "drafts", "tree", "chain", "DAG with 4 links", "rings of 8", "doubly linked chain",
-    "one loop of all",
+    "empty", "drafts", "tree", "chain", "DAG with 4 links", "rings of 8",
+    "rings of 8, 1,000 lines", "doubly linked chain", "one loop of all",
 };
 static const char *const call_names[] = {
-    "start", "new", "set", "freeze", "acquire", "release", "release, frees", "bin", "look",
-    "check",
+    "start", "new", "set", "freeze", "acquire", "acquire, a new line", "release",
+    "release, frees", "bin", "look", "check",
 };
 
 typedef struct {
     uint8_t states[LARGEST];
     uint16_t links[4 * LARGEST], leaders[LARGEST], holds[LARGEST];
     uint32_t counts[LARGEST];
+    uint16_t lines[REGISTER];
     uint16_t list[LARGEST];
 } Tables;
 
@@ -41,20 +44,24 @@ static Tables kept, lent;
 static uint32_t work[8 * LARGEST];
 static size_t n;
 
-#define THE_STORE n, lent.states, n, lent.links, 4 * n, lent.leaders, n, lent.holds, n, lent.counts, n
+#define THE_STORE \
+    n, lent.states, n, lent.links, 4 * n, lent.leaders, n, lent.holds, n, lent.counts, n, \
+        lent.lines, REGISTER
 #define THE_WORK work, 8 * n
 #define ALL THE_STORE, lent.list, n, THE_WORK
 
-// One call by one side. Draft n - 2 and the free number n - 1 stand beside every shape.
+// One call by one side, by seat 0 or, for a new line, seat 16. Draft n - 2 and the free number
+// n - 1 stand beside every shape.
 #define SIDE(x) \
     static uint64_t by_##x(int call) { \
         switch (call) { \
         case START: return x##_start(THE_STORE); \
         case NEW: return x##_new(ALL); \
         case SET: return x##_set(ALL, n - 2, 0, 0); \
-        case FREEZE: return x##_freeze(ALL, 0); \
-        case ACQUIRE: return x##_acquire(ALL, 0); \
-        case RELEASE: case RELEASE_ALL: return x##_release(ALL, 0); \
+        case FREEZE: return x##_freeze(ALL, 0, 0); \
+        case ACQUIRE: return x##_acquire(ALL, 0, 0); \
+        case ACQUIRE_LINE: return x##_acquire(ALL, 0, 16); \
+        case RELEASE: case RELEASE_ALL: return x##_release(ALL, 0, 0); \
         case BIN: return x##_bin(ALL, n - 2); \
         case LOOK: return x##_look(THE_STORE, THE_WORK, 0); \
         default: return x##_check(THE_STORE, THE_WORK); \
@@ -72,14 +79,26 @@ static size_t link_of(int shape, size_t p, size_t k, size_t m) {
     case TREE: t = k < 2 ? 2 * p + 1 + k : NONE; break;
     case CHAIN: t = k < 1 ? p + 1 : NONE; break;
     case DAG: t = p + 1 + k; break;
-    case RINGS: t = k < 1 ? (p % 8 < 7 && p + 1 < m ? p + 1 : p / 8 * 8) : NONE; break;
+    case RINGS: case SEATED: t = k < 1 ? (p % 8 < 7 && p + 1 < m ? p + 1 : p / 8 * 8) : NONE; break;
     case DOUBLY: t = k < 1 ? p + 1 : k < 2 && p ? p - 1 : NONE; break;
     case LOOP: t = k < 1 ? (p + 1) % m : NONE; break;
     }
     return t < m ? t : NONE;
 }
 
-// Makes the tables that a call starts from.
+// Freezes the drafts from p on by seat 0, each with what it reaches; gives how many lines it takes.
+static size_t freeze_from(size_t p, size_t m) {
+    size_t used = 0;
+    for (; p < m; p++)
+        if (lent.states[p] == 1) {
+            plain_freeze(ALL, p, 0);
+            used++;
+        }
+    return used;
+}
+
+// Makes the tables that a call starts from. A freeze finds drafts alone, or all but one ring frozen
+// where there are 1,000 lines: those of seat 0, and of the others on a ring after the first each.
 static void make(int shape, int call, size_t m) {
     plain_start(THE_STORE);
     memset(lent.list, 7, sizeof lent.list);
@@ -90,9 +109,14 @@ static void make(int shape, int call, size_t m) {
             for (size_t k = 0; k < 4; k++) lent.links[4 * p + k] = link_of(shape, p, k, m);
         }
         if (m + 2 <= n) lent.states[n - 2] = 1;
-        for (size_t p = 0; shape != DRAFTS && call != FREEZE && p < m; p++)
-            if (lent.states[p] == 1) plain_freeze(ALL, p);
-        if (call == RELEASE && shape != DRAFTS) plain_acquire(ALL, 0);
+        if (shape == SEATED) {
+            size_t used = freeze_from(call == FREEZE ? 8 : 0, m);
+            for (size_t i = 0; used < 1000; i++, used++)
+                plain_acquire(ALL, 8 * (1 + i / 31), 1 + i % 31);
+        } else if (shape != DRAFTS && call != FREEZE) {
+            freeze_from(0, m);
+        }
+        if (call == RELEASE && shape != DRAFTS) plain_acquire(ALL, 0, 0);
     }
     if (plain_check(THE_STORE, THE_WORK) != 1 << 16) {
         fprintf(stderr, "%s: not sound\n", shape_names[shape]);

@@ -1,19 +1,22 @@
 /*
  * A drawing program's use of the store: a front and a back that name each other are drawn up,
- * handed in, looked at and released; once by calls, once by a lent trace.
+ * handed in by one seat, looked at, and released by it alone; once by calls, once by a lent trace.
  */
 #include "pieces.h"
 #include <stdio.h>
 #include <stdlib.h>
 #include <string.h>
 
-enum { N = 16 };
+enum { N = 16, REGISTER = 3 * PIECES_LINES };
+
+/* The seats of two students. */
+enum { MINE = 3, YOURS = 4 };
 
 static uint8_t states[N];
-static uint16_t links[4 * N], leaders[N], holds[N], list[N];
+static uint16_t links[4 * N], leaders[N], holds[N], lines[REGISTER], list[N];
 static uint32_t counts[N], work[8 * N];
 
-#define STORE N, states, N, links, 4 * N, leaders, N, holds, N, counts, N
+#define STORE N, states, N, links, 4 * N, leaders, N, holds, N, counts, N, lines, REGISTER
 #define AREAS STORE, list, N, work, 8 * N
 
 /* The answer of a call that is to be accepted. */
@@ -41,19 +44,22 @@ static void by_calls(void) {
     accepted("set", pieces_set(AREAS, back, 0, front));
     look("front", front);
 
-    accepted("freeze", pieces_freeze(AREAS, front));
+    accepted("freeze", pieces_freeze(AREAS, front, MINE));
     look("front", front);
     look("back", back);
-    printf("release of back: refused, %u\n", pieces_refusal(pieces_release(AREAS, back)));
+    printf("release of back: refused, %u\n", pieces_refusal(pieces_release(AREAS, back, MINE)));
+    printf("release of front by another seat: refused, %u\n",
+           pieces_refusal(pieces_release(AREAS, front, YOURS)));
 
-    uint32_t freed = pieces_freed(accepted("release", pieces_release(AREAS, front)));
+    uint32_t freed = pieces_freed(accepted("release", pieces_release(AREAS, front, MINE)));
     printf("release of front: freed %u:", freed);
     for (uint32_t i = 0; i < freed; i++) printf(" %u", list[i]);
     printf("\nsound: %s\n", pieces_sound(pieces_check(STORE, work, 8 * N)) ? "yes" : "no");
 }
 
 static void by_trace(void) {
-    static const char trace[] = "n\nn\ns 0 0 1\ns 1 0 0\nl 0\nf 0\nl 0\nl 1\nr 1\nr 0\n";
+    static const char trace[] =
+        "n\nn\ns 0 0 1\ns 1 0 0\nl 0\nf 0 3\nl 0\nl 1\nr 1 3\nr 0 4\nr 0 3\n";
     static uint8_t room[1000];
     uint64_t length = pieces_trace((const uint8_t *)trace, strlen(trace), room, sizeof room);
     if (pieces_trace_refusal(length)) {

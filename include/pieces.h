@@ -3,8 +3,9 @@
  *
  * A piece is a draft (its links may change) or frozen (they may not). Frozen pieces that reach
  * each other are one group with one count, and a frozen piece that nothing keeps is freed at
- * once. Link with libpieces.a, which is for x86-64 Linux; it allocates nothing, keeps nothing
- * between calls, and calls nothing of the program's.
+ * once. A hold on a piece belongs to a seat, and only that seat can release it. Link with
+ * libpieces.a, which is for x86-64 Linux; it allocates nothing, keeps nothing between calls, and
+ * calls nothing of the program's.
  *
  * Areas. The program owns the tables and lends them to each call as a pointer and a length in
  * entries. For a store of capacity N, 1 to PIECES_MOST:
@@ -12,12 +13,14 @@
  *   states   N            0 free, 1 draft, 2 frozen
  *   links    4N           the four links of piece P start at entry 4P; a number or PIECES_NONE
  *   leaders  N            frozen: its group's leader; else PIECES_NONE
- *   holds    N            0 to PIECES_HOLDS; 0 unless frozen
+ *   holds    N            0 to PIECES_HOLDS, over all seats; 0 unless frozen
  *   counts   N            at a leader: the group's count; else 0
+ *   lines    3072         the register: PIECES_LINES lines of seat, piece and number of holds,
+ *                         ascending by seat, then piece; unused lines are last and all 0
  *   list     at least N   numbers freed by this call
  *   work     at least 8N  scratch
  *
- * The first five are the store; each is to be exactly its length. pieces_start makes any contents
+ * The first six are the store; each is to be exactly its length. pieces_start makes any contents
  * the empty store. Every other call looks first whether the tables are sound, so a program may
  * read them, keep them in a file and lend them again.
  *
@@ -50,6 +53,8 @@ extern "C" {
 #define PIECES_MOST 1024   /* the largest capacity */
 #define PIECES_LINKS 4     /* links a piece */
 #define PIECES_HOLDS 1000  /* holds a piece, at most */
+#define PIECES_SEATS 32    /* seats, 0 to 31 */
+#define PIECES_LINES 1024  /* lines of the register, three entries each */
 #define PIECES_TRACE 65536 /* bytes of a lent trace, at most */
 #define PIECES_NONE 65535  /* the mark for none */
 
@@ -59,18 +64,21 @@ enum pieces_states { PIECES_IS_FREE = 0, PIECES_IS_DRAFT = 1, PIECES_IS_FROZEN =
 /* The refusals. They are checked in this order; the first that applies is given. */
 enum pieces_refusals {
     PIECES_ACCEPTED = 0,
-    PIECES_SIZE = 1,    /* N outside 1 to 1,024, an area of the store not exactly its length, list
-                           or work too short (of the areas the call takes) */
-    PIECES_UNSOUND = 2, /* tables not sound (not for start and check) */
-    PIECES_NUMBER = 3,  /* P is N or more, K above 3, or T neither none nor below N */
-    PIECES_FREE = 4,    /* P or T is a free number */
-    PIECES_STATE = 5,   /* set or bin of a frozen piece; acquire or release of a draft */
-    PIECES_LIMIT = 6,   /* acquire or freeze of a frozen piece with 1,000 holds */
-    PIECES_NOTHELD = 7, /* release of a piece with 0 holds */
-    PIECES_LINKED = 8,  /* bin of a draft that another piece links to */
-    PIECES_FULL = 9,    /* new with no free number */
-    PIECES_LONG = 10,   /* lent trace over 65,536 bytes */
-    PIECES_ROOM = 11    /* output of a lent trace longer than the room lent */
+    PIECES_SIZE = 1,      /* N outside 1 to 1,024, an area of the store not exactly its length,
+                             list or work too short (of the areas the call takes) */
+    PIECES_UNSOUND = 2,   /* tables not sound (not for start and check) */
+    PIECES_SEAT = 12,     /* the seat is above 31 */
+    PIECES_NUMBER = 3,    /* P is N or more, K above 3, or T neither none nor below N */
+    PIECES_FREE = 4,      /* P or T is a free number */
+    PIECES_STATE = 5,     /* set or bin of a frozen piece; acquire or release of a draft */
+    PIECES_LIMIT = 6,     /* acquire or freeze of a frozen piece with 1,000 holds */
+    PIECES_REGISTER = 14, /* a hold would need a line of the register and all are used */
+    PIECES_NOTHELD = 7,   /* release of a piece with 0 holds */
+    PIECES_NOTYOURS = 13, /* release of a piece that has holds, but none of this seat's */
+    PIECES_LINKED = 8,    /* bin of a draft that another piece links to */
+    PIECES_FULL = 9,      /* new with no free number */
+    PIECES_LONG = 10,     /* lent trace over 65,536 bytes */
+    PIECES_ROOM = 11      /* output of a lent trace longer than the room lent */
 };
 
 /*
@@ -84,14 +92,15 @@ uint64_t pieces_trace(const uint8_t *trace, size_t trace_len, uint8_t *room, siz
 /* Any table contents become the empty store. */
 uint64_t pieces_start(size_t n, uint8_t *states, size_t states_len, uint16_t *links,
                       size_t links_len, uint16_t *leaders, size_t leaders_len, uint16_t *holds,
-                      size_t holds_len, uint32_t *counts, size_t counts_len);
+                      size_t holds_len, uint32_t *counts, size_t counts_len, uint16_t *lines,
+                      size_t lines_len);
 
 /* The lowest free number becomes a draft with four empty links; its number is the value. */
 uint64_t pieces_new(size_t n, uint8_t *states, size_t states_len, const uint16_t *links,
                     size_t links_len, const uint16_t *leaders, size_t leaders_len,
                     const uint16_t *holds, size_t holds_len, const uint32_t *counts,
-                    size_t counts_len, const uint16_t *list, size_t list_len, uint32_t *work,
-                    size_t work_len);
+                    size_t counts_len, const uint16_t *lines, size_t lines_len,
+                    const uint16_t *list, size_t list_len, uint32_t *work, size_t work_len);
 
 /*
  * Draft P's link K becomes T: none, a draft, a frozen piece, P itself. Every frozen piece no
@@ -100,34 +109,35 @@ uint64_t pieces_new(size_t n, uint8_t *states, size_t states_len, const uint16_t
 uint64_t pieces_set(size_t n, uint8_t *states, size_t states_len, uint16_t *links,
                     size_t links_len, uint16_t *leaders, size_t leaders_len,
                     const uint16_t *holds, size_t holds_len, uint32_t *counts, size_t counts_len,
-                    uint16_t *list, size_t list_len, uint32_t *work, size_t work_len, uint16_t p,
-                    uint16_t k, uint16_t t);
+                    const uint16_t *lines, size_t lines_len, uint16_t *list, size_t list_len,
+                    uint32_t *work, size_t work_len, uint16_t p, uint16_t k, uint16_t t);
 
 /*
- * P and every draft it reaches become frozen; P gets one hold. If P is frozen already it only
- * gets one more hold.
+ * P and every draft it reaches become frozen; P gets one hold of the seat's. If P is frozen
+ * already it only gets one more hold.
  */
 uint64_t pieces_freeze(size_t n, uint8_t *states, size_t states_len, const uint16_t *links,
                        size_t links_len, uint16_t *leaders, size_t leaders_len, uint16_t *holds,
-                       size_t holds_len, uint32_t *counts, size_t counts_len,
-                       const uint16_t *list, size_t list_len, uint32_t *work, size_t work_len,
-                       uint16_t p);
+                       size_t holds_len, uint32_t *counts, size_t counts_len, uint16_t *lines,
+                       size_t lines_len, const uint16_t *list, size_t list_len, uint32_t *work,
+                       size_t work_len, uint16_t p, uint16_t seat);
 
-/* One hold more on frozen P. */
+/* One hold of the seat's more on frozen P. */
 uint64_t pieces_acquire(size_t n, const uint8_t *states, size_t states_len, const uint16_t *links,
                         size_t links_len, const uint16_t *leaders, size_t leaders_len,
                         uint16_t *holds, size_t holds_len, uint32_t *counts, size_t counts_len,
-                        const uint16_t *list, size_t list_len, uint32_t *work, size_t work_len,
-                        uint16_t p);
+                        uint16_t *lines, size_t lines_len, const uint16_t *list, size_t list_len,
+                        uint32_t *work, size_t work_len, uint16_t p, uint16_t seat);
 
 /*
- * One hold less on frozen P, which is to have one of its own. Every frozen piece no longer kept
- * becomes free and is listed, as after set.
+ * One hold of the seat's less on frozen P, on which the seat is to have one. Every frozen piece
+ * no longer kept becomes free and is listed, as after set.
  */
 uint64_t pieces_release(size_t n, uint8_t *states, size_t states_len, uint16_t *links,
                         size_t links_len, uint16_t *leaders, size_t leaders_len, uint16_t *holds,
-                        size_t holds_len, uint32_t *counts, size_t counts_len, uint16_t *list,
-                        size_t list_len, uint32_t *work, size_t work_len, uint16_t p);
+                        size_t holds_len, uint32_t *counts, size_t counts_len, uint16_t *lines,
+                        size_t lines_len, uint16_t *list, size_t list_len, uint32_t *work,
+                        size_t work_len, uint16_t p, uint16_t seat);
 
 /*
  * Draft P becomes free; it is not listed. Every frozen piece no longer kept becomes free and is
@@ -136,19 +146,22 @@ uint64_t pieces_release(size_t n, uint8_t *states, size_t states_len, uint16_t *
 uint64_t pieces_bin(size_t n, uint8_t *states, size_t states_len, uint16_t *links,
                     size_t links_len, uint16_t *leaders, size_t leaders_len,
                     const uint16_t *holds, size_t holds_len, uint32_t *counts, size_t counts_len,
-                    uint16_t *list, size_t list_len, uint32_t *work, size_t work_len, uint16_t p);
+                    const uint16_t *lines, size_t lines_len, uint16_t *list, size_t list_len,
+                    uint32_t *work, size_t work_len, uint16_t p);
 
 /* State, leader, count of its group, holds of P; for a draft 1, none, 0, 0. */
 uint64_t pieces_look(size_t n, const uint8_t *states, size_t states_len, const uint16_t *links,
                      size_t links_len, const uint16_t *leaders, size_t leaders_len,
                      const uint16_t *holds, size_t holds_len, const uint32_t *counts,
-                     size_t counts_len, uint32_t *work, size_t work_len, uint16_t p);
+                     size_t counts_len, const uint16_t *lines, size_t lines_len,
+                     uint32_t *work, size_t work_len, uint16_t p);
 
 /* Yes exactly if the tables are sound. Of the refusals it gives only SIZE. */
 uint64_t pieces_check(size_t n, const uint8_t *states, size_t states_len, const uint16_t *links,
                       size_t links_len, const uint16_t *leaders, size_t leaders_len,
                       const uint16_t *holds, size_t holds_len, const uint32_t *counts,
-                      size_t counts_len, uint32_t *work, size_t work_len);
+                      size_t counts_len, const uint16_t *lines, size_t lines_len,
+                      uint32_t *work, size_t work_len);
 
 /* The refusal of any of the nine calls, 0 if it was accepted. */
 static inline unsigned pieces_refusal(uint64_t answer) { return (unsigned)(answer & 0xff); }

@@ -4,14 +4,8 @@
 BY_TRACE = [
     ("the count forgets drafts outside", [
         ("pieces.rs", "filter(|&&p| !inside[p])", "filter(|&&p| !inside[p] && self.states[p] == FROZEN)")]),
-    ("links within a group are counted", [
-        ("pieces.rs", "filter(|&&p| !inside[p])", "filter(|&&p| !inside[p] || inside[p])")]),
-    ("a link of a piece to itself is counted", [
-        ("pieces.rs", "filter(|&&p| !inside[p])", "filter(|&&p| !inside[p] || p == *q)")]),
     ("two places that name one piece count once", [
         ("pieces.rs", "        namers\n", "        namers.iter_mut().for_each(|all| all.dedup());\n        namers\n")]),
-    ("the leader is the highest", [
-        ("pieces.rs", "group.iter().min()", "group.iter().max()")]),
     ("a group is all that its piece reaches", [
         ("pieces.rs", "reached[q] && reaching[q]", "reached[q]")]),
     ("drafts keep nothing", [
@@ -21,11 +15,6 @@ BY_TRACE = [
         ("commands.rs", "filter(|&p| !kept[p]).collect();",
          "filter(|&p| !kept[p]).collect();\n"
          "        let freed = freed.first().map_or(Vec::new(), |&p| self.group(p, &self.namers()));")]),
-    ("nothing is freed", [
-        ("commands.rs", "filter(|&p| !kept[p])", "filter(|&p| !kept[p] && false)")]),
-    ("numbers below the highest live one are not used again", [
-        ("commands.rs", "self.in_state(FREE).next()",
-         "(0..self.n()).rev().take_while(|&p| self.states[p] == FREE).last()")]),
     ("the old link of set is removed before the other counts", [
         ("commands.rs", "        self.links[p][usize::from(k)] = t;\n        self.settle()",
          "        self.links[p][usize::from(k)] = NONE;\n        let answer = self.settle();\n"
@@ -33,18 +22,15 @@ BY_TRACE = [
     ("set refuses a frozen piece before a free target", [
         ("commands.rs", "        self.live(p)?;\n", "        self.live_in(DRAFT, p)?;\n")]),
     ("freeze of a frozen piece gives no hold", [
-        ("commands.rs", "            return self.acquire(p);", "            return nothing();")]),
+        ("commands.rs", "            return self.acquire(p, seat);", "            return nothing();")]),
     ("the limit is 999", [
         ("tables.rs", "HOLDS: u16 = 1_000", "HOLDS: u16 = 999")]),
     ("NOTHELD is judged by the group's count", [
-        ("commands.rs", "if self.holds[p] == 0 {", "if self.look(p as u16)?.count == 0 {"),
-        ("commands.rs", "self.holds[p] -= 1;", "self.holds[p] = self.holds[p].saturating_sub(1);")]),
+        ("commands.rs", "if self.holds()[p] == 0 {", "if self.look(p as u16)?.count == 0 {")]),
     ("a draft is LINKED by itself", [
         ("commands.rs", "(0..self.n()).filter(|&q| q != p)", "0..self.n()")]),
     ("numbers of six digits are read", [
         ("line.rs", "(1..=5)", "(1..=6)")]),
-    ("65,536 is read", [
-        ("line.rs", "u16::try_from(value).ok()", "Some(value.min(65_535) as u16)")]),
     ("two spaces are read as one", [
         ("line.rs", "line.split(|&byte| byte == b' ')",
          "line.split(|&byte| byte == b' ').filter(|word| !word.is_empty())")]),
@@ -54,22 +40,52 @@ BY_TRACE = [
     ("a last line without byte 10 is left out", [
         ("trace.rs", "split_inclusive(|&byte| byte == b'\\n')",
          "split_inclusive(|&byte| byte == b'\\n').filter(|line| line.ends_with(b\"\\n\"))")]),
-    ("an empty line is left out", [
-        ("trace.rs", "split_inclusive(|&byte| byte == b'\\n')",
-         "split_inclusive(|&byte| byte == b'\\n').filter(|line| line.len() > 1)")]),
     ("a line of over 64 bytes is read as two", [
         ("trace.rs", "split_inclusive(|&byte| byte == b'\\n')",
          "split_inclusive(|&byte| byte == b'\\n')\n"
          "        .flat_map(|line| { let (a, b) = line.split_at(line.len().min(65)); [a, b] })\n"
          "        .filter(|line| !line.is_empty())")]),
+    ("a release takes from the first line that names the piece", [
+        ("register.rs", "        self.register[own].number -= 1;",
+         "        let own = self.register.iter().position(|line| usize::from(line.piece) == p).unwrap_or(own);\n"
+         "        self.register[own].number -= 1;")]),
+    ("SEAT is judged after NUMBER and FREE", [
+        ("commands.rs", "        seated(seat)?;\n        let start = self.live(p)?;",
+         "        let start = self.live(p)?;\n        seated(seat)?;")]),
+    ("seat 32 is one", [
+        ("tables.rs", "SEATS: u16 = 32", "SEATS: u16 = 33")]),
+    ("a seat above 31 makes the line bad", [
+        ("line.rs", '[b"a", p, seat] => Some(Command::Acquire(number(p)?, number(seat)?))',
+         '[b"a", p, seat] => Some(Command::Acquire(number(p)?, number(seat).filter(|&seat| seat < 32)?))')]),
+    ("the seat of a line is passed over", [
+        ("line.rs", "Some(Command::Release(number(p)?, number(seat)?))",
+         "number(seat).and(Some(Command::Release(number(p)?, NO_SEAT)))")]),
+    ("NOTYOURS is judged by the piece's holds", [
+        ("register.rs", "self.line(p, seat).ok_or(Refusal::NotYours)?",
+         "self.line(p, seat).or(self.register.iter().position(|line| usize::from(line.piece) == p))"
+         ".ok_or(Refusal::NotYours)?")]),
+    ("NOTYOURS is judged before NOTHELD", [
+        ("commands.rs", "        if self.holds()[p] == 0 {", "        if self.holds()[p] == 0 && self.line(p, seat).is_some() {")]),
+    ("LIMIT is judged by the seat's own holds", [
+        ("commands.rs", "if self.holds()[p] == u32::from(HOLDS) {",
+         "if self.line(p, seat).map_or(false, |own| self.register[own].number == HOLDS) {")]),
+    ("REGISTER is given where a line is there", [
+        ("register.rs", "self.line(p, seat).is_none() && self.register.len()", "self.register.len()")]),
+    ("REGISTER is not given to a freeze of a draft", [
+        ("commands.rs", "        self.room(start, seat)?;\n", ""),
+        ("commands.rs", "        self.room(p, seat)?;\n", "        if self.register.iter().any(|line| usize::from(line.piece) == p) {\n"
+         "            self.room(p, seat)?;\n        }\n")]),
+    ("a freeze that REGISTER refuses freezes", [
+        ("commands.rs", "        self.room(start, seat)?;\n", "")]),
+    ("REGISTER is judged before LIMIT", [
+        ("commands.rs", "        if self.holds()[p] == u32::from(HOLDS) {",
+         "        self.room(p, seat)?;\n        if self.holds()[p] == u32::from(HOLDS) {")]),
 ]
 
 # Wrong in what a call over tables or a lent trace shows: noticed by `doors`.
 BY_DOOR = [
     ("N of 1,025 is right", [
         ("tables.rs", "(1..=CAPACITY)", "(1..=CAPACITY + 1)")]),
-    ("a longer list is refused", [
-        ("calls.rs", "if list.len() < store.n {", "if list.len() != store.n {")]),
     ("a work area one short is right", [
         ("calls.rs", "work.len() < 8 * store.n {", "work.len() + 1 < 8 * store.n {"),
         ("calls.rs", "    work[..8 * store.n].fill(0);", "    let end = work.len().min(8 * store.n);\n    work[..end].fill(0);")]),
@@ -77,12 +93,6 @@ BY_DOOR = [
         ("sound.rs", "store.holds[p] <= HOLDS", "store.holds[p] <= HOLDS + 1")]),
     ("a frozen piece may link to a draft", [
         ("sound.rs", "none_or(&[FROZEN])", "none_or(&[DRAFT, FROZEN])")]),
-    ("a free piece may have a link", [
-        ("sound.rs", "none_or(&[])", "none_or(&[FREE, DRAFT, FROZEN])")]),
-    ("a draft may have a leader", [
-        ("sound.rs", "leaders == store.leaders", "pieces.in_state(FROZEN).all(|p| leaders[p] == store.leaders[p])")]),
-    ("counts are judged at leaders only", [
-        ("sound.rs", "counts == store.counts", "(0..store.n).all(|p| counts[p] == store.counts[p] || counts[p] == 0)")]),
     ("a frozen piece kept by nobody is sound", [
         ("sound.rs", "all(|p| kept[p])", "all(|p| kept[p] || true)")]),
     ("check refuses unsound tables", [
@@ -94,8 +104,34 @@ BY_DOOR = [
         ("calls.rs", "work[..8 * store.n].fill(0)", "work.fill(0)")]),
     ("the list is cleared behind the freed numbers", [
         ("calls.rs", "            list[..freed.len()]", "            list.fill(0);\n            list[..freed.len()]")]),
-    ("a refused look tells a count", [
-        ("calls.rs", "state: FREE, leader: NONE, count: 0, holds: 0 }", "state: FREE, leader: NONE, count: 1, holds: 0 }")]),
+    ("a line of 0 is left standing", [
+        ("register.rs", "        self.register.retain(|line| line.number > 0);\n", ""),
+        ("register.rs", "self.line(p, seat).ok_or(",
+         "self.line(p, seat).filter(|&own| self.register[own].number > 0).ok_or(")]),
+    ("a new line stands at the end", [
+        ("register.rs", "        self.register.sort();\n", "")]),
+    ("a line goes and the last one takes its place", [
+        ("register.rs", "        self.register.retain(|line| line.number > 0);\n",
+         "        if self.register[own].number == 0 {\n            self.register.swap_remove(own);\n        }\n")]),
+    ("start leaves the register", [
+        ("calls.rs", "    write(&Pieces::empty(store.n), store);",
+         "    let lines = store.register.to_vec();\n    write(&Pieces::empty(store.n), store);\n"
+         "    store.register.copy_from_slice(&lines);")]),
+    ("a longer register is right", [
+        ("tables.rs", "self.register.len() == LINE * LINES", "self.register.len() >= LINE * LINES"),
+        ("calls.rs", "store.register.copy_from_slice(", "store.register[..3_072].copy_from_slice(")]),
+    ("a pair may stand twice", [
+        ("sound.rs", "two[0][..2] < two[1][..2]", "two[0][..2] <= two[1][..2]")]),
+    ("a line is unused if its number is 0, whatever else it has", [
+        ("sound.rs", "line == &[0; LINE]", "line[2] == 0")]),
+    ("used lines end at the first unused one", [
+        ("sound.rs", "unused.iter().all(|line| line == &[0; LINE])",
+         "unused.iter().take(1).all(|line| line == &[0; LINE])"),
+        ("register.rs", "        .filter(|line| line.number > 0)\n", "        .take_while(|line| line.number > 0)\n")]),
+    ("seat 32 may stand in the register", [
+        ("sound.rs", "line[0] < SEATS", "line[0] <= SEATS")]),
+    ("holds may be more than the sum", [
+        ("sound.rs", "sum == u32::from(p)", "sum <= u32::from(p)")]),
     ("a trace of 65,536 bytes is LONG", [
         ("tables.rs", "LENT: usize = 65_536", "LENT: usize = 65_535")]),
     ("a room that fits exactly is short", [

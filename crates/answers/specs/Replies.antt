@@ -4,7 +4,7 @@ use mathlib.Core.List.{List, []}
 use Prim.Native.Nat.{ℕ}
 use lib.ListN.{length, drop}
 use lib.Seq.{take-append-seam}
-use Rattle.rules.specs.Tables.{Base, Store, isDraft, isFrozen}
+use Rattle.rules.specs.Tables.{Base, Tables, Store, isDraft, isFrozen}
 use Rattle.rules.specs.Commands.{Verdict, accepted, refused, verdict, freedBy, valueOf}
 use Rattle.rules.specs.Calls.{Reply, answered, saw, checked, refusedBy, doneBy, acceptedBy, listing, effected, effectOf}
 use Rattle.rules.specs.Trace.{answerLine, lookLine, acceptedLine, lineBy, answerTo, howMany, leads, endLine}
@@ -25,41 +25,41 @@ done-listed : (b : Base) (c : Command) (l : List ℕ) → lineOf (doneBy b c) (l
 unfolding doneBy listing
 done-listed b c l = rw (take-append-seam (freedBy b c) (drop (length (freedBy b c)) l))
 
-accepted-line : (s : Store) (l : List ℕ) (c : Command) → replyLine (acceptedBy s c) (listing (freedBy (s .base) c) l) ≡ acceptedLine s c
+accepted-line : (t : Tables) (l : List ℕ) (c : Command) → replyLine (acceptedBy t c) (listing (freedBy (t .base) c) l) ≡ acceptedLine t c
 unfolding acceptedBy acceptedLine
-accepted-line s l New = done-listed (s .base) New l
-accepted-line s l (Set p k t) = done-listed (s .base) (Set p k t) l
-accepted-line s l (Freeze p) = done-listed (s .base) (Freeze p) l
-accepted-line s l (Acquire p) = done-listed (s .base) (Acquire p) l
-accepted-line s l (Release p) = done-listed (s .base) (Release p) l
-accepted-line s l (Bin p) = done-listed (s .base) (Bin p) l
-accepted-line s l (Look p) = refl
+accepted-line t l New = done-listed (t .base) New l
+accepted-line t l (Set p k u) = done-listed (t .base) (Set p k u) l
+accepted-line t l (Freeze p i) = done-listed (t .base) (Freeze p i) l
+accepted-line t l (Acquire p i) = done-listed (t .base) (Acquire p i) l
+accepted-line t l (Release p i) = done-listed (t .base) (Release p i) l
+accepted-line t l (Bin p) = done-listed (t .base) (Bin p) l
+accepted-line t l (Look p) = refl
 
-refused-reply : (r : Refusal) (s : Store) (l : List ℕ) (c : Command) → replyLine (refusedBy r c) l ≡ lineBy s c (refused r)
+refused-reply : (r : Refusal) (t : Tables) (l : List ℕ) (c : Command) → replyLine (refusedBy r c) l ≡ lineBy t c (refused r)
 unfolding refusedBy lineBy
-refused-reply r s l New = refl
-refused-reply r s l (Set p k t) = refl
-refused-reply r s l (Freeze p) = refl
-refused-reply r s l (Acquire p) = refl
-refused-reply r s l (Release p) = refl
-refused-reply r s l (Bin p) = refl
-refused-reply r s l (Look p) = refl
+refused-reply r t l New = refl
+refused-reply r t l (Set p k u) = refl
+refused-reply r t l (Freeze p i) = refl
+refused-reply r t l (Acquire p i) = refl
+refused-reply r t l (Release p i) = refl
+refused-reply r t l (Bin p) = refl
+refused-reply r t l (Look p) = refl
 
 by-verdict : (s : Store) (l : List ℕ) (c : Command) (v : Verdict)
-    → replyLine (effected s l c v .reply) (effected s l c v .list) ≡ lineBy s c v
+    → replyLine (effected s l c v .reply) (effected s l c v .list) ≡ lineBy (s .tables) c v
 unfolding effected lineBy
-by-verdict s l c accepted = accepted-line s l c
-by-verdict s l c (refused r) = refused-reply r s l c
+by-verdict s l c accepted = accepted-line (s .tables) l c
+by-verdict s l c (refused r) = refused-reply r (s .tables) l c
 
 -- what a command's line answers, from what the command itself replies and leaves in the list
 pub reply-line : (s : Store) (l : List ℕ) (c : Command)
     → replyLine (effectOf s l c .reply) (effectOf s l c .list) ≡ answerTo s (Does c)
 unfolding effectOf answerTo
-reply-line s l c = by-verdict s l c (verdict (s .base) c)
+reply-line s l c = by-verdict s l c (verdict s c)
 
 -- the last line, from the three numbers
-pub end-line : (s : Store)
-    → endLine s
-    ≡ closingLine (howMany (isDraft (s .base)) (s .base .n)) (howMany (isFrozen (s .base)) (s .base .n)) (howMany (leads s) (s .base .n))
+pub end-line : (t : Tables)
+    → endLine t
+    ≡ closingLine (howMany (isDraft (t .base)) (t .base .n)) (howMany (isFrozen (t .base)) (t .base .n)) (howMany (leads t) (t .base .n))
 unfolding endLine
-end-line s = refl
+end-line t = refl

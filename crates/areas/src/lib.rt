@@ -3,7 +3,7 @@ ghost use mathlib.Core.Path.{_≡_};
 ghost use mathlib.Core.List.{_++_};
 ghost use Prim.Native.Nat.{_+_, _*_, _≤_, _<_};
 ghost use lib.ListN.{length, drop, replicate};
-ghost use Rattle.rules.specs.Tables.{storeOf};
+ghost use Rattle.rules.specs.Tables.{tablesOf};
 ghost use Rattle.rules.specs.Calls.{isSized};
 ghost use Rattle.areas.specs.Lowest.{NoneFree, LowestFree};
 ghost use Rattle.areas.specs.Blocks.{Shows};
@@ -55,7 +55,7 @@ pub fn sized(
     holds: &[u16],
     counts: &[u32],
 ) -> bool
-    ensures { λ r. ⌜ r ≡ isSized (storeOf n (now (states .entry)) (now (links .entry)) (now (leaders .entry)) (now (holds .entry)) (now (counts .entry))) ⌝ }
+    ensures { λ r. ⌜ r ≡ isSized (tablesOf n (now (states .entry)) (now (links .entry)) (now (leaders .entry)) (now (holds .entry)) (now (counts .entry))) ⌝ }
 {
     if n < 1 {
         return false;

@@ -3,9 +3,10 @@ ghost use mathlib.Core.Path.{_≡_};
 ghost use mathlib.Core.List.{[], _∷_};
 ghost use Prim.Native.Nat.{_*_, _≤_, _<_};
 ghost use lib.ListN.{length};
-ghost use Rattle.rules.specs.Tables.{storeOf};
-ghost use Rattle.rules.specs.Calls.{answered, effect, Ready, Did};
+ghost use Rattle.rules.specs.Tables.{tablesOf};
+ghost use Rattle.rules.specs.Calls.{answered, Ready};
 ghost use Rattle.rules.specs.declared.Command.the-variants.{Bin};
+ghost use Rattle.laws.specs.ByTables.{DidTables, tablesEffect};
 ghost use Rattle.editing.specs.Verdicts.{Worked};
 ghost use Rattle.editing.specs.Started.{Tippings, Tumbled};
 ghost use Rattle.editing.specs.Linked.{namings, linkedTo};
@@ -91,10 +92,10 @@ fn bin_draft(
     list: &mut [u16],
     p: usize,
 ) -> usize
-    requires { ⌜ Binning (storeOf n (now states) (now links) (now leaders) (now holds) (now counts)) (now list) p ⌝ }
+    requires { ⌜ Binning (tablesOf n (now states) (now links) (now leaders) (now holds) (now counts)) (now list) p ⌝ }
     ensures { λ r. ⌜ Worked (Bin p)
-        (storeOf n (now (states .entry)) (now (links .entry)) (now (leaders .entry)) (now (holds .entry)) (now (counts .entry))) (now (list .entry))
-        (storeOf n (now (states .exit)) (now (links .exit)) (now (leaders .exit)) (now (holds .entry)) (now (counts .exit))) (now (list .exit)) r ⌝ }
+        (tablesOf n (now (states .entry)) (now (links .entry)) (now (leaders .entry)) (now (holds .entry)) (now (counts .entry))) (now (list .entry))
+        (tablesOf n (now (states .exit)) (now (links .exit)) (now (leaders .exit)) (now (holds .entry)) (now (counts .exit))) (now (list .exit)) r ⌝ }
 {
     let at = Store::LINKS * p;
     let a = links[at] as usize;
@@ -118,10 +119,10 @@ pub fn bin(
     list: &mut [u16],
     p: u16,
 ) -> Answer
-    requires { ⌜ Ready (storeOf n (now states) (now links) (now leaders) (now holds) (now counts)) × (n ≤ length (now list)) ⌝ }
-    ensures { λ r. ⌜ Did (Bin p)
-        (storeOf n (now (states .entry)) (now (links .entry)) (now (leaders .entry)) (now (holds .entry)) (now (counts .entry))) (now (list .entry))
-        (effect (answered r) (storeOf n (now (states .exit)) (now (links .exit)) (now (leaders .exit)) (now (holds .entry)) (now (counts .exit))) (now (list .exit))) ⌝ }
+    requires { ⌜ Ready (tablesOf n (now states) (now links) (now leaders) (now holds) (now counts)) × (n ≤ length (now list)) ⌝ }
+    ensures { λ r. ⌜ DidTables (Bin p)
+        (tablesOf n (now (states .entry)) (now (links .entry)) (now (leaders .entry)) (now (holds .entry)) (now (counts .entry))) (now (list .entry))
+        (tablesEffect (answered r) (tablesOf n (now (states .exit)) (now (links .exit)) (now (leaders .exit)) (now (holds .entry)) (now (counts .exit))) (now (list .exit))) ⌝ }
 {
     let at = p as usize;
     if n <= at {

@@ -22,13 +22,13 @@ pub record Went (s : Store) (before : List ℕ) (s′ : Store) (kept : List ℕ)
 -- the end of the input: what was kept is answered, and only the last line of the output is left
 pub record Over (s : Store) (kept : List ℕ) (s′ : Store) : Type 0 where
   pub said : List ℕ
-  pub is : outputOf s (linesFrom [] kept) ≡ said ++ endLine s′
+  pub is : outputOf s (linesFrom [] kept) ≡ said ++ endLine (s′ .tables)
 
 -- all that was read is answered by what was written, but for the last line
 pub record Finished (n : ℕ) (s : Store) : Type 0 where
   pub all : List ℕ
   pub said : List ℕ
-  pub is : traceAt n all ≡ said ++ endLine s
+  pub is : traceAt n all ≡ said ++ endLine (s .tables)
 
 -- ---- laws
 
@@ -51,5 +51,5 @@ module _ {n : ℕ} {s s′ : Store} {before : List ℕ} (o : Sofar n s before) w
   sofar-over v = record {
     all = o .all;
     said = o .said ++ v .said;
-    is = says-end (o .says) ∙ ap (λ (t : List ℕ). o .said ++ t) (v .is) ∙ sym (append-assoc (o .said) (v .said) (endLine s′));
+    is = says-end (o .says) ∙ ap (λ (t : List ℕ). o .said ++ t) (v .is) ∙ sym (append-assoc (o .said) (v .said) (endLine (s′ .tables)));
   }

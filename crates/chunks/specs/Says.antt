@@ -77,12 +77,12 @@ closing-last (b ∷ bs) h =
     let e : length ((b ∷ bs) ++ (10 ∷ [])) - 1 ≡ length (b ∷ bs) = omega (arith, length-append (b ∷ bs) (10 ∷ [])) in
     ap (λ (k : ℕ). getD ((b ∷ bs) ++ (10 ∷ [])) k 0) e ∙ getD-append-seam (b ∷ bs) 10 [] 0
 
-none-left : (s : Store) → outputOf s (linesFrom [] []) ≡ endLine s
+none-left : (s : Store) → outputOf s (linesFrom [] []) ≡ endLine (s .tables)
 unfolding outputOf linesFrom
 none-left s = refl
 
 -- and then only the last line of the output is left
 pub says-over : {s s′ : Store} {said : List ℕ} (line : List ℕ) → Unended line → Says s (closing line) said s′ []
-    → outputOf s (linesFrom [] line) ≡ said ++ endLine s′
+    → outputOf s (linesFrom [] line) ≡ said ++ endLine (s′ .tables)
 says-over {s} {s′} {said} line u a =
     sym (closing-same s line u) ∙ says-end a ∙ ap (λ (t : List ℕ). said ++ t) (none-left s′)

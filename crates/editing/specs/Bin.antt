@@ -13,13 +13,14 @@ use Rattle.rules.specs.Tests.{pick}
 use Rattle.rules.specs.Limits.{none}
 use Rattle.rules.specs.Below.{table, sum}
 use Rattle.rules.specs.Lists.{Among, first, later, _!_}
-use Rattle.rules.specs.Tables.{baseOf, Base, Store, state, isFree, isFrozen, holdsOf}
+use Rattle.rules.specs.Tables.{baseOf, Base, Tables, state, isFree, isFrozen, holdsOf}
 use Rattle.rules.specs.Words.{Frozen, Well}
 use Rattle.rules.specs.Commands.{freeAll, withStates, withLinks, edit, settles, valueOf}
-use Rattle.rules.specs.Calls.{answered, effect, acceptedBy, doneBy, Ready, Did}
+use Rattle.rules.specs.Calls.{answered, acceptedBy, doneBy, Ready}
 use Rattle.rules.specs.declared.Refusal.the-variants.{Linked}
 use Rattle.rules.specs.declared.Command.the-variants.{Bin}
 use Rattle.rules.specs.declared.Answer.the-variants.{Refused}
+use Rattle.laws.specs.ByTables.{DidTables, tablesEffect}
 use Rattle.laws.specs.Below.{T-dec, pick-true, pick-false, getD-table, length-table}
 use Rattle.laws.specs.Words.{eqb-of, neqb-of}
 use Rattle.laws.specs.Passes.{Passes, live-draft, draft-of}
@@ -39,14 +40,14 @@ use Rattle.editing.specs.Emptied.{Emptying, Emptied}
 
 -- ---- the refusal
 
-module _ {s : Store} {list : List ℕ} {p : ℕ} (below : p < s .base .n) (live : s .base .states ! p ≡ 0 → ⊥) (other : s .base .states ! p ≡ 2 → ⊥) where
-  pub bin-linked : true ≡ linkedTo (s .base .n) (s .base .links) p → Did (Bin p) s list (effect (answered (Refused Linked)) s list)
+module _ {s : Tables} {list : List ℕ} {p : ℕ} (below : p < s .base .n) (live : s .base .states ! p ≡ 0 → ⊥) (other : s .base .states ! p ≡ 2 → ⊥) where
+  pub bin-linked : true ≡ linkedTo (s .base .n) (s .base .links) p → DidTables (Bin p) s list (tablesEffect (answered (Refused Linked)) s list)
   bin-linked e = own-refused bin-names below live other (subst T (e ∙ sym (isLinked-is (s .base) p)) tt, refl)
 
 -- ---- the edited base
 
 -- a bin that is accepted, on sound tables, with room for the list
-pub record Binning (s : Store) (list : List ℕ) (p : ℕ) : Type 0 where
+pub record Binning (s : Tables) (list : List ℕ) (p : ℕ) : Type 0 where
   pub ready : Ready s
   pub room : s .base .n ≤ length list
   pub below : p < s .base .n
@@ -54,7 +55,7 @@ pub record Binning (s : Store) (list : List ℕ) (p : ℕ) : Type 0 where
   pub other : s .base .states ! p ≡ 2 → ⊥
   pub alone : false ≡ linkedTo (s .base .n) (s .base .links) p
 
-module _ {s : Store} {list : List ℕ} {p : ℕ} (g : Binning s list p) where
+module _ {s : Tables} {list : List ℕ} {p : ℕ} (g : Binning s list p) where
   abbrev b : Base
   b = s .base
 

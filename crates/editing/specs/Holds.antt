@@ -8,20 +8,21 @@ use lib.ListN.{length, set, length-set}
 use lib.Seq.{getD-set-other}
 use Rattle.rules.specs.Tests.{_&_}
 use Rattle.rules.specs.Limits.{none}
-use Rattle.rules.specs.Tables.{storeOn, Base, Store, state, isFree, isDraft, isFrozen, linkAt, holdsOf}
+use Rattle.rules.specs.Tables.{tablesOn, Base, Tables, state, isFree, isDraft, isFrozen, linkAt, holdsOf}
 use Rattle.rules.specs.Words.{Frozen, Well}
 use Rattle.rules.specs.Lists.{first, _!_}
-use Rattle.rules.specs.Commands.{atLimit, notHeld, edit, withHolds, oneMore, oneLess, after, settles, freedBy, valueOf, nextStore}
-use Rattle.rules.specs.Calls.{answered, effect, acceptedBy, doneBy, listing, fresh, Ready, Did}
+use Rattle.rules.specs.Commands.{accepted, tableRefusals, atLimit, notHeld, edit, withHolds, oneMore, oneLess, after, settles, freedBy, valueOf, nextTables}
+use Rattle.rules.specs.Calls.{answered, acceptedBy, doneBy, listing, fresh, Ready}
 use Rattle.rules.specs.declared.Refusal.the-variants.{Limit, NotHeld}
 use Rattle.rules.specs.declared.Command.the-variants.{Acquire, Release}
 use Rattle.rules.specs.declared.Answer.{Answer}
 use Rattle.rules.specs.declared.Answer.the-variants.{Refused}
+use Rattle.laws.specs.ByTables.{DidTables, tablesEffect}
 use Rattle.laws.specs.Tests.{and-both, and-right}
 use Rattle.laws.specs.Words.{eqb-of, neqb-of, →isFrozen}
-use Rattle.laws.specs.Passes.{Passes, live-frozen}
+use Rattle.laws.specs.Passes.{Passes, live-frozen, tableVerdict}
 use Rattle.laws.specs.Commands.{edit-well}
-use Rattle.laws.specs.Verdicts.{accepts, did-accepted}
+use Rattle.laws.specs.ByTables.{accepts, did-accepted}
 use Rattle.tallies.specs.Sums.{getD-any}
 use Rattle.tallies.specs.Tally.{label, CountsMatch}
 use Rattle.tallies.specs.Moves.{match-hold, hold-counts}
@@ -36,15 +37,15 @@ use Rattle.editing.specs.Names.{acquire-names, release-names, names-pass
 -- ---- the leader of a frozen piece, and its count
 
 -- the leader of p
-abbrev leads : Store → ℕ → ℕ
+abbrev leads : Tables → ℕ → ℕ
 leads s p = s .leaders ! p
 
 -- the store where p has h holds and its leader the count c
-abbrev withHold : Store → ℕ → ℕ → ℕ → Store
+abbrev withHold : Tables → ℕ → ℕ → ℕ → Tables
 withHold s p h c =
-    storeOn (withHolds (s .base) (set (s .base .holds) p h)) (s .leaders) (set (s .counts) (leads s p) c)
+    tablesOn (withHolds (s .base) (set (s .base .holds) p h)) (s .leaders) (set (s .counts) (leads s p) c)
 
-module _ {s : Store} {p : ℕ} (o : Ready s) (below : p < s .base .n) (live : s .base .states ! p ≡ 0 → ⊥) (other : s .base .states ! p ≡ 1 → ⊥) where
+module _ {s : Tables} {p : ℕ} (o : Ready s) (below : p < s .base .n) (live : s .base .states ! p ≡ 0 → ⊥) (other : s .base .states ! p ≡ 1 → ⊥) where
   abbrev b : Base
   b = s .base
 
@@ -86,14 +87,14 @@ module _ {s : Store} {p : ℕ} (o : Ready s) (below : p < s .base .n) (live : s 
 
   -- ---- acquire
 
-  pub acquire-limit : 1000 ≤ b .holds ! p → Did (Acquire p) s [] (effect (answered (Refused Limit)) s [])
+  pub acquire-limit : 1000 ≤ b .holds ! p → DidTables (Acquire p 0) s [] (tablesEffect (answered (Refused Limit)) s [])
   unfolding atLimit holdsOf
   acquire-limit h =
       own-refused acquire-names below live other
       (and-both (isFrozen b p) (leb 1000 (b .holds ! p)) (→isFrozen b p (p-frozen .is)) (le→leb 1000 (b .holds ! p) h), refl)
 
   module _ (few : b .holds ! p < 1000) where
-    acquire-passes : Passes b (Acquire p)
+    acquire-passes : Passes b (Acquire p 0)
     unfolding atLimit holdsOf
     acquire-passes =
         names-pass acquire-names below live other (
@@ -102,38 +103,43 @@ module _ {s : Store} {p : ℕ} (o : Ready s) (below : p < s .base .n) (live : s 
           tt,
         )
 
-    edit-more : edit b (Acquire p) ≡ withHolds b (set (b .holds) p (b .holds ! p + 1))
+    -- no seat is refused by the tables
+    pub acquire-accepted : (i : ℕ) → tableVerdict b (Acquire p i) ≡ accepted
+    unfolding tableVerdict tableRefusals
+    acquire-accepted i = accepts acquire-passes
+
+    edit-more : edit b (Acquire p 0) ≡ withHolds b (set (b .holds) p (b .holds ! p + 1))
     unfolding edit oneMore holdsOf
     edit-more = refl
 
     wells-more : (q : ℕ) → q < b .n → Well (withHolds b (set (b .holds) p (b .holds ! p + 1))) q
     unfolding withHolds
-    wells-more = subst (λ (x : Base). (q : ℕ) → q < x .n → Well x q) edit-more (edit-well b (o .sized .base) (good-of s o) (Acquire p) acquire-passes)
+    wells-more = subst (λ (x : Base). (q : ℕ) → q < x .n → Well x q) edit-more (edit-well b (o .sized .base) (good-of s o) (Acquire p 0) acquire-passes)
 
-    abbrev s′ : Store
+    abbrev s′ : Tables
     s′ = withHold s p (b .holds ! p + 1) (s .counts ! l + 1)
 
-    next-is : s′ ≡ nextStore s (Acquire p)
-    unfolding nextStore after settles edit oneMore holdsOf withHolds
+    next-is : s′ ≡ nextTables s (Acquire p 0)
+    unfolding nextTables after settles edit oneMore holdsOf withHolds
     next-is =
         finished (s′ .base) (s .leaders) (exact-e (b .holds ! p + 1) wells-more) wells-more (s′ .counts)
         (length-set (s .counts) l (s .counts ! l + 1) ∙ o .sized .counts) (match-e (b .holds ! p + 1) wells-more (s .counts ! l + 1) (omega arith))
 
-    pub acquired : {r : Answer} → r ≡ fresh → Did (Acquire p) s [] (effect (answered r) s′ [])
+    pub acquired : {r : Answer} → r ≡ fresh → DidTables (Acquire p 0) s [] (tablesEffect (answered r) s′ [])
     unfolding acceptedBy doneBy valueOf freedBy settles listing
     acquired is = record {
-      exact = (λ i. record { reply = answered (is i); store = next-is i; list = [] }) ∙ did-accepted (Acquire p) s [] (accepts acquire-passes) .exact;
+      exact = (λ i. record { reply = answered (is i); tables = next-is i; list = [] }) ∙ did-accepted (Acquire p 0) s [] (accepts acquire-passes) .exact;
     }
 
 -- ---- release
 
-module _ {s : Store} {list : List ℕ} {p : ℕ} (below : p < s .base .n) (live : s .base .states ! p ≡ 0 → ⊥) (other : s .base .states ! p ≡ 1 → ⊥) where
-  pub release-held : s .base .holds ! p ≡ 0 → Did (Release p) s list (effect (answered (Refused NotHeld)) s list)
+module _ {s : Tables} {list : List ℕ} {p : ℕ} (below : p < s .base .n) (live : s .base .states ! p ≡ 0 → ⊥) (other : s .base .states ! p ≡ 1 → ⊥) where
+  pub release-held : s .base .holds ! p ≡ 0 → DidTables (Release p 0) s list (tablesEffect (answered (Refused NotHeld)) s list)
   unfolding notHeld holdsOf
   release-held h = own-refused release-names below live other (eqb-of {m = s .base .holds ! p} {n = 0} h, refl)
 
 -- a release that is accepted, on sound tables, with room for the list
-pub record Releasing (s : Store) (list : List ℕ) (p : ℕ) : Type 0 where
+pub record Releasing (s : Tables) (list : List ℕ) (p : ℕ) : Type 0 where
   pub ready : Ready s
   pub room : s .base .n ≤ length list
   pub below : p < s .base .n
@@ -141,7 +147,7 @@ pub record Releasing (s : Store) (list : List ℕ) (p : ℕ) : Type 0 where
   pub other : s .base .states ! p ≡ 1 → ⊥
   pub some : s .base .holds ! p ≡ 0 → ⊥
 
-module _ {s : Store} {list : List ℕ} {p : ℕ} (g : Releasing s list p) where
+module _ {s : Tables} {list : List ℕ} {p : ℕ} (g : Releasing s list p) where
   abbrev led : (leads s p < s .base .n) × (label (s .leaders) p ≡ leads s p)
   led = (l-n (g .ready) (g .below) (g .live) (g .other), label-p (g .ready) (g .below) (g .live) (g .other))
 
@@ -158,14 +164,18 @@ module _ {s : Store} {list : List ℕ} {p : ℕ} (g : Releasing s list p) where
   pub released-in : (s .base .n ≤ 1024) × (leads s p < s .base .n) × (leads s p < length (s .counts)) × (0 < s .counts ! leads s p)
   released-in = (g .ready .sized .base .most, led .0, omega (arith, g .ready .sized .counts, led .0), l-counted)
 
-  release-passes : Passes (s .base) (Release p)
+  release-passes : Passes (s .base) (Release p 0)
   unfolding notHeld holdsOf
   release-passes = names-pass release-names (g .below) (g .live) (g .other) (neqb-of {m = s .base .holds ! p} {n = 0} (g .some), tt)
 
-  abbrev s₁ : Store
+  pub release-accepted : (i : ℕ) → tableVerdict (s .base) (Release p i) ≡ accepted
+  unfolding tableVerdict tableRefusals
+  release-accepted i = accepts release-passes
+
+  abbrev s₁ : Tables
   s₁ = withHold s p (s .base .holds ! p - 1) (s .counts ! leads s p - 1)
 
-  edit-less : s₁ .base ≡ edit (s .base) (Release p)
+  edit-less : s₁ .base ≡ edit (s .base) (Release p 0)
   unfolding edit oneLess holdsOf
   edit-less = refl
 
@@ -173,7 +183,7 @@ module _ {s : Store} {list : List ℕ} {p : ℕ} (g : Releasing s list p) where
   unfolding withHolds
   wells-less =
       subst (λ (x : Base). (q : ℕ) → q < x .n → Well x q) (sym edit-less)
-      (edit-well (s .base) (g .ready .sized .base) (good-of s (g .ready)) (Release p) release-passes)
+      (edit-well (s .base) (g .ready .sized .base) (good-of s (g .ready)) (Release p 0) release-passes)
 
   begin-release : Begin (s₁ .base) (s .leaders) (s₁ .counts) list
   unfolding withHolds
@@ -192,7 +202,7 @@ module _ {s : Store} {list : List ℕ} {p : ℕ} (g : Releasing s list p) where
       let d : L ≡ leads s p → ⊥ = λ x. off p (first refl) (led .1 ∙ sym x) in
       subst (λ (x : ℕ). 0 < x) (sym (getD-set-other (s .counts) (leads s p) L (s .counts ! leads s p - 1) 0 d)) (counted-of s (g .ready) L h own)
 
-  pub release-edited : Edited (Release p) s list (s₁ .base) (s₁ .counts) (p ∷ [])
+  pub release-edited : Edited (Release p 0) s list (s₁ .base) (s₁ .counts) (p ∷ [])
   unfolding settles acceptedBy doneBy valueOf withHolds
   release-edited = record {
     passes = release-passes;

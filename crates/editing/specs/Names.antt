@@ -6,19 +6,21 @@ use Prim.Native.Nat.{ℕ, _≤_, _<_}
 use native.Mathlib.Omega.{arith}
 use lib.ListN.{length}
 use lib.Dec.{T, not-T, eqb, ltb, ltb→lt, lt→ltb}
-use Rattle.rules.specs.Tables.{Base, Store, state, isFree, isDraft, isFrozen}
-use Rattle.rules.specs.Commands.{firstOf, verdict, refusals, atLimit, notHeld, isLinked}
-use Rattle.rules.specs.Calls.{Reply, answered, effect, refusedBy, Did}
+use Rattle.rules.specs.Tables.{Base, Tables, state, isFree, isDraft, isFrozen}
+use Rattle.rules.specs.Commands.{firstOf, tableRefusals, atLimit, notHeld, isLinked}
+use Rattle.rules.specs.Calls.{Reply, answered, refusedBy}
 use Rattle.rules.specs.declared.Refusal.{Refusal}
 use Rattle.rules.specs.declared.Refusal.the-variants.{Number, Free, State, Limit, NotHeld, Linked}
 use Rattle.rules.specs.declared.Command.{Command}
 use Rattle.rules.specs.declared.Command.the-variants.{Acquire, Release, Bin}
 use Rattle.rules.specs.declared.Answer.the-variants.{Refused}
 use Rattle.laws.specs.Words.{eqb-of, neqb-of}
-use Rattle.laws.specs.Passes.{Passed, Passes}
-use Rattle.laws.specs.Verdicts.{Applies, first-at, did-refused}
+use Rattle.laws.specs.Passes.{Passed, Passes, tableVerdict}
+use Rattle.laws.specs.Rows.{Applies, first-at}
+use Rattle.laws.specs.ByTables.{did-refused}
 use Rattle.laws.specs.Calls.{double-not}
 use Rattle.rules.specs.Lists.{_!_}
+use Rattle.laws.specs.ByTables.{DidTables, tablesEffect}
 
 -- the rows of a command that names p and is not for a piece whose state is k, before its own
 abbrev pub rowsOf : Base → ℕ → ℕ → List (Bool × Refusal) → List (Bool × Refusal)
@@ -26,20 +28,20 @@ rowsOf b p k own = (not (ltb p (b .n)), Number) ∷ (isFree b p, Free) ∷ (eqb 
 
 -- c is such a command
 pub record Names (b : Base) (c : Command) (p k : ℕ) (own : List (Bool × Refusal)) : Type 0 where
-  pub rows : refusals b c ≡ rowsOf b p k own
+  pub rows : tableRefusals b c ≡ rowsOf b p k own
   pub says : (r : Refusal) → refusedBy r c ≡ answered (Refused r)
 
 module _ {b : Base} {p : ℕ} where
-  pub acquire-names : Names b (Acquire p) p 1 ((atLimit b p, Limit) ∷ [])
-  unfolding refusals isDraft refusedBy
+  pub acquire-names : Names b (Acquire p 0) p 1 ((atLimit b p, Limit) ∷ [])
+  unfolding tableRefusals isDraft refusedBy
   acquire-names = record { rows = refl; says = λ r. refl }
 
-  pub release-names : Names b (Release p) p 1 ((notHeld b p, NotHeld) ∷ [])
-  unfolding refusals isDraft refusedBy
+  pub release-names : Names b (Release p 0) p 1 ((notHeld b p, NotHeld) ∷ [])
+  unfolding tableRefusals isDraft refusedBy
   release-names = record { rows = refl; says = λ r. refl }
 
   pub bin-names : Names b (Bin p) p 2 ((isLinked b p, Linked) ∷ [])
-  unfolding refusals isFrozen refusedBy
+  unfolding tableRefusals isFrozen refusedBy
   bin-names = record { rows = refl; says = λ r. refl }
 
 -- ---- the rows that it passes
@@ -67,27 +69,27 @@ names-pass {b} {c} {p} {k} m below live other rest = record {
 
 -- ---- the refusals
 
-module _ {s : Store} {c : Command} {l : List ℕ} {p k : ℕ} {own : List (Bool × Refusal)} (m : Names (s .base) c p k own) where
+module _ {s : Tables} {c : Command} {l : List ℕ} {p k : ℕ} {own : List (Bool × Refusal)} (m : Names (s .base) c p k own) where
   -- what a refusal says and leaves
-  refusal : (i : ℕ) (r : Refusal) → Passed i (rowsOf (s .base) p k own) → Applies i (rowsOf (s .base) p k own) r → Did c s l (effect (answered (Refused r)) s l)
+  refusal : (i : ℕ) (r : Refusal) → Passed i (rowsOf (s .base) p k own) → Applies i (rowsOf (s .base) p k own) r → DidTables c s l (tablesEffect (answered (Refused r)) s l)
   refusal i r passed applies =
-      subst (λ (x : Reply). Did c s l (effect x s l)) (m .says r)
-      (did-refused c s l r (unfold verdict in (ap firstOf (m .rows) ∙ first-at i (rowsOf (s .base) p k own) r passed applies)))
+      subst (λ (x : Reply). DidTables c s l (tablesEffect x s l)) (m .says r)
+      (did-refused c s l r (unfold tableVerdict in (ap firstOf (m .rows) ∙ first-at i (rowsOf (s .base) p k own) r passed applies)))
 
-  pub number-refused : s .base .n ≤ p → Did c s l (effect (answered (Refused Number)) s l)
+  pub number-refused : s .base .n ≤ p → DidTables c s l (tablesEffect (answered (Refused Number)) s l)
   number-refused h = refusal 0 Number tt (not-T (ltb p (s .base .n)) (λ t. omega (arith, ltb→lt p (s .base .n) t)), refl)
 
   module _ (below : p < s .base .n) where
-    pub free-refused : s .base .states ! p ≡ 0 → Did c s l (effect (answered (Refused Free)) s l)
+    pub free-refused : s .base .states ! p ≡ 0 → DidTables c s l (tablesEffect (answered (Refused Free)) s l)
     unfolding state isFree
     free-refused e = refusal 1 Free (number-right (s .base) p k below, tt) (eqb-of {m = s .base .states ! p} {n = 0} e, refl)
 
     module _ (live : s .base .states ! p ≡ 0 → ⊥) where
-      pub state-refused : s .base .states ! p ≡ k → Did c s l (effect (answered (Refused State)) s l)
+      pub state-refused : s .base .states ! p ≡ k → DidTables c s l (tablesEffect (answered (Refused State)) s l)
       unfolding state
       state-refused e =
           refusal 2 State (number-right (s .base) p k below, (free-right (s .base) p k below live, tt)) (eqb-of {m = s .base .states ! p} {n = k} e, refl)
 
       -- by the first of its own rows
-      pub own-refused : {r : Refusal} → (s .base .states ! p ≡ k → ⊥) → Applies 0 own r → Did c s l (effect (answered (Refused r)) s l)
+      pub own-refused : {r : Refusal} → (s .base .states ! p ≡ k → ⊥) → Applies 0 own r → DidTables c s l (tablesEffect (answered (Refused r)) s l)
       own-refused {r} other t = refusal 3 r (number-right (s .base) p k below, (free-right (s .base) p k below live, (state-right (s .base) p k below live other, tt))) t

@@ -12,9 +12,9 @@ use Rattle.laws.specs.Tests.{same-test}
 use Rattle.rules.specs.Tests.{_&_}
 use Rattle.rules.specs.Limits.{none}
 use Rattle.rules.specs.Lists.{first, _!_}
-use Rattle.rules.specs.Tables.{Base, Store, state, isFree, linkAt}
+use Rattle.rules.specs.Tables.{Base, Tables, state, isFree, linkAt}
 use Rattle.rules.specs.Words.{Frozen, Well}
-use Rattle.rules.specs.Commands.{refusals, edit, withLinks, settles, valueOf}
+use Rattle.rules.specs.Commands.{tableRefusals, edit, withLinks, settles, valueOf}
 use Rattle.rules.specs.Calls.{acceptedBy, doneBy, Ready}
 use Rattle.rules.specs.declared.Refusal.the-variants.{Number, Free, State}
 use Rattle.rules.specs.declared.Command.the-variants.{Set}
@@ -31,12 +31,12 @@ use Rattle.editing.specs.Relink.{Relinking, Relinked}
 use Rattle.editing.specs.Targets.{misnames, named}
 
 -- a set that is accepted, on sound tables, with room for the list
-pub record Setting (s : Store) (list : List ℕ) (p k t : ℕ) : Type 0 where
+pub record Setting (s : Tables) (list : List ℕ) (p k t : ℕ) : Type 0 where
   pub ready : Ready s
   pub room : s .base .n ≤ length list
   pub passes : Passes (s .base) (Set p k t)
 
-module _ {s : Store} {list : List ℕ} {p k t : ℕ} (g : Setting s list p k t) where
+module _ {s : Tables} {list : List ℕ} {p k t : ℕ} (g : Setting s list p k t) where
   abbrev b : Base
   b = s .base
 
@@ -48,12 +48,12 @@ module _ {s : Store} {list : List ℕ} {p k t : ℕ} (g : Setting s list p k t) 
   e = withLinks b (set (b .links) i t)
 
   names-right : (p < b .n) × (k < 4) × ((t ≡ none) ⊎ (t < b .n))
-  unfolding refusals applies misnames
+  unfolding tableRefusals applies misnames
   names-right =
       named (b .n) p k t (same-test false (misnames (b .n) p k t) (λ f. absurd f) (λ x. T-not (misnames (b .n) p k t) (not-by (g .passes) Number) x))
 
   draft : state b p ≡ 1
-  unfolding refusals applies
+  unfolding tableRefusals applies
   draft =
       live-draft b p (wells-of s (g .ready) p (names-right .0))
       (not-or-left (isFree b p) (not (eqb t none) & isFree b t) (not-by (g .passes) Free)) (not-by (g .passes) State)

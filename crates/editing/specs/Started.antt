@@ -6,7 +6,7 @@ use Prim.Native.Nat.{ℕ, _≤_, _<_}
 use native.Mathlib.Omega.{arith}
 use lib.ListN.{length}
 use Rattle.rules.specs.Limits.{none}
-use Rattle.rules.specs.Tables.{Base, Store, state, linkAt}
+use Rattle.rules.specs.Tables.{Base, Tables, state, linkAt}
 use Rattle.rules.specs.Words.{Frozen, Well}
 use Rattle.rules.specs.Commands.{edit, settles, freedBy}
 use Rattle.rules.specs.Calls.{answered, acceptedBy, Ready}
@@ -25,7 +25,7 @@ use Rattle.editing.specs.Verdicts.{Worked, freedFrom, settled-did}
 
 -- ---- sound tables
 
-module _ {s : Store} (o : Ready s) where
+module _ {s : Tables} (o : Ready s) where
   -- each has its length, and the list has room
   pub lengths-of : (list : List ℕ) → s .base .n ≤ length list → Lengths (s .base .n) (s .leaders) (s .base .states) (s .base .links) (s .counts) list
   lengths-of list room = record {
@@ -104,7 +104,7 @@ tumbled-one p = tumbled-next p tumbled-none
 -- ---- the edited base
 
 -- the tables after the edit of command c: they match the edited base e, and at most the groups of the pieces xs have lost their counts
-pub record Edited (c : Command) (s : Store) (list : List ℕ) (e : Base) (counts xs : List ℕ) : Type 0 where
+pub record Edited (c : Command) (s : Tables) (list : List ℕ) (e : Base) (counts xs : List ℕ) : Type 0 where
   pub passes : Passes (s .base) c
   pub on : settles c ≡ true
   pub says : acceptedBy s c ≡ answered (Done none (length (freedBy (s .base) c)))
@@ -113,7 +113,7 @@ pub record Edited (c : Command) (s : Store) (list : List ℕ) (e : Base) (counts
   pub begin : Begin e (s .leaders) counts list
   pub counted : OthersCounted e (s .leaders) (e .states) counts xs
 
-module _ {c : Command} {s : Store} {list : List ℕ} {e : Base} {counts xs : List ℕ} (d : Edited c s list e counts xs) where
+module _ {c : Command} {s : Tables} {list : List ℕ} {e : Base} {counts xs : List ℕ} (d : Edited c s list e counts xs) where
   pub edited-tippings : Tippings (e .n) (e .states) (s .leaders) counts list 0 xs
   edited-tippings = record { began = e; known = d .begin .known; falling = fall-start (d .begin) (d .counted) }
 

@@ -8,9 +8,9 @@ use lib.Dec.{T, eqb, ltb, eqb→eq, ltb→lt}
 use borrow.Author.Tests.{eq-eqb, ne-eqb, lt-ltb, le-ltb}
 use Rattle.rules.specs.Tests.{_&_, _or_}
 use Rattle.rules.specs.Limits.{none}
-use Rattle.rules.specs.Tables.{Base, Store, state, isFree, isFrozen}
-use Rattle.rules.specs.Commands.{noPiece, noPlace, noTarget, freeTarget, refusals}
-use Rattle.rules.specs.Calls.{answered, effect, refusedBy, Did}
+use Rattle.rules.specs.Tables.{Base, Tables, state, isFree, isFrozen}
+use Rattle.rules.specs.Commands.{noPiece, noPlace, noTarget, freeTarget, tableRefusals}
+use Rattle.rules.specs.Calls.{answered, refusedBy}
 use Rattle.rules.specs.declared.Refusal.the-variants.{Number, Free, State}
 use Rattle.rules.specs.declared.Command.the-variants.{Set}
 use Rattle.rules.specs.declared.Answer.the-variants.{Refused}
@@ -18,7 +18,8 @@ use Rattle.laws.specs.Tests.{or-cases}
 use Rattle.laws.specs.Words.{eqb-of, neqb-of}
 use Rattle.laws.specs.Passes.{Passes, not-or-left, not-or-right, not-not}
 use Rattle.rules.specs.Lists.{_!_}
-use Rattle.laws.specs.Verdicts.{refuses, did-refused}
+use Rattle.laws.specs.ByTables.{DidTables, tablesEffect}
+use Rattle.laws.specs.ByTables.{refuses, did-refused}
 
 -- ---- the tests
 
@@ -96,19 +97,19 @@ module _ (b : Base) (p k t : ℕ) where
   unfolding isFree state frees
   free-right free = subst (λ (u : Bool). T (not u)) free tt
 
-module _ {s : Store} {list : List ℕ} {p k t : ℕ} where
-  pub set-number : true ≡ misnames (s .base .n) p k t → Did (Set p k t) s list (effect (answered (Refused Number)) s list)
-  unfolding refusedBy refusals misnames
+module _ {s : Tables} {list : List ℕ} {p k t : ℕ} where
+  pub set-number : true ≡ misnames (s .base .n) p k t → DidTables (Set p k t) s list (tablesEffect (answered (Refused Number)) s list)
+  unfolding refusedBy tableRefusals misnames
   set-number e = did-refused (Set p k t) s list Number (refuses 0 (s .base) (Set p k t) Number tt (subst T e tt, refl))
 
   module _ (number : false ≡ misnames (s .base .n) p k t) where
-    pub set-free : true ≡ frees (s .base .states) p t → Did (Set p k t) s list (effect (answered (Refused Free)) s list)
-    unfolding refusedBy refusals isFree state frees
+    pub set-free : true ≡ frees (s .base .states) p t → DidTables (Set p k t) s list (tablesEffect (answered (Refused Free)) s list)
+    unfolding refusedBy tableRefusals isFree state frees
     set-free e =
         did-refused (Set p k t) s list Free (refuses 1 (s .base) (Set p k t) Free (number-right (s .base) p k t number, tt) (subst T e tt, refl))
 
-    pub set-state : false ≡ frees (s .base .states) p t → s .base .states ! p ≡ 2 → Did (Set p k t) s list (effect (answered (Refused State)) s list)
-    unfolding refusedBy refusals isFrozen state
+    pub set-state : false ≡ frees (s .base .states) p t → s .base .states ! p ≡ 2 → DidTables (Set p k t) s list (tablesEffect (answered (Refused State)) s list)
+    unfolding refusedBy tableRefusals isFrozen state
     set-state free e =
         did-refused (Set p k t) s list State
         (refuses 2 (s .base) (Set p k t) State (number-right (s .base) p k t number, (free-right (s .base) p k t free, tt))
@@ -116,7 +117,7 @@ module _ {s : Store} {list : List ℕ} {p k t : ℕ} where
 
 pub set-passes : {b : Base} {p k t : ℕ} → false ≡ misnames (b .n) p k t → false ≡ frees (b .states) p t → (b .states ! p ≡ 2 → ⊥)
     → Passes b (Set p k t)
-unfolding refusals isFrozen state
+unfolding tableRefusals isFrozen state
 set-passes {b} {p} {k} {t} number free d = record {
   rows = (number-right b p k t number, (free-right b p k t free, (neqb-of {m = b .states ! p} {n = 2} d, tt)));
 }

@@ -1,2 +1,4 @@
 pub mod Entered
+pub mod Judged
 pub mod Calls
+pub mod Started

@@ -1,15 +1,37 @@
 // How every call but start begins: the sizes, then the soundness.
+ghost use mathlib.Core.Path.{_≡_};
 ghost use Rattle.rules.specs.Tables.{storeOf};
+ghost use Rattle.rules.specs.Calls.{isSizedStore};
 ghost use Rattle.entering.specs.Entered.{Entered};
+use rules::Store;
 
 // How a call begins.
 pub enum Entry {
     // N is no capacity, or an area has not its length.
     Short,
-    // The tables are not sound.
+    // The store is not sound.
     Flawed,
-    // The tables are sound.
+    // The store is sound.
     Sound,
+}
+
+// Whether n is a capacity and each area of the store has exactly its length.
+pub fn sized(
+    n: usize,
+    states: &[u8],
+    links: &[u16],
+    leaders: &[u16],
+    holds: &[u16],
+    counts: &[u32],
+    register: &[u16],
+) -> bool
+    ensures { λ r. ⌜ r ≡ isSizedStore
+        (storeOf n (now (states .entry)) (now (links .entry)) (now (leaders .entry)) (now (holds .entry)) (now (counts .entry)) (now (register .entry))) ⌝ }
+{
+    if register.len() != Store::ENTRIES {
+        return false;
+    }
+    areas::sized(n, states, links, leaders, holds, counts)
 }
 
 // What every call but start does first: the sizes, with room entries of list, then the soundness; work is clear but for a wrong size.
@@ -20,13 +42,15 @@ pub fn enter(
     leaders: &[u16],
     holds: &[u16],
     counts: &[u32],
+    register: &[u16],
     room: usize,
     work: &mut [u32],
 ) -> Entry
-    ensures { λ r. ⌜ Entered (storeOf n (now (states .entry)) (now (links .entry)) (now (leaders .entry)) (now (holds .entry)) (now (counts .entry))) room
+    ensures { λ r. ⌜ Entered
+        (storeOf n (now (states .entry)) (now (links .entry)) (now (leaders .entry)) (now (holds .entry)) (now (counts .entry)) (now (register .entry))) room
         (now (work .entry)) r (now (work .exit)) ⌝ }
 {
-    if !areas::sized(n, states, links, leaders, holds, counts) {
+    if !sized(n, states, links, leaders, holds, counts, register) {
         return Entry::Short;
     }
     if room < n {
@@ -35,7 +59,10 @@ pub fn enter(
     if work.len() < 8 * n {
         return Entry::Short;
     }
-    if sound::is_sound(n, states, links, leaders, holds, counts, work) {
+    if !sound::is_sound(n, states, links, leaders, holds, counts, work) {
+        return Entry::Flawed;
+    }
+    if register::agrees(n, register, holds, work) {
         return Entry::Sound;
     }
     Entry::Flawed

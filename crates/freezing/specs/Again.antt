@@ -1,5 +1,5 @@
 -- Freeze and its refusals: of a piece that is no draft, freeze does what acquire does.
-use mathlib.Core.Path.{_≡_, refl, sym, ap, _∙_, subst}
+use mathlib.Core.Path.{_≡_, refl, sym, ap, _∙_}
 use mathlib.Core.List.{List, [], _∷_}
 use mathlib.Core.Bool.{Bool, true, false, not}
 use Prim.Native.Nat.{ℕ, _≤_, _<_}
@@ -7,101 +7,171 @@ use native.Mathlib.Omega.{arith}
 use lib.Dec.{T, not-T, eqb, ltb, leb, lt→ltb, ltb→lt}
 use Rattle.rules.specs.Tests.{_&_}
 use Rattle.rules.specs.Limits.{mostHolds}
-use Rattle.rules.specs.Tables.{Base, Store, state, isFree, isDraft, isFrozen, holdsOf, finish}
-use Rattle.rules.specs.Commands.{Verdict, accepted, refused, firstOf, refusals, verdict, noPiece, atLimit}
-use Rattle.rules.specs.Commands.{oneMore, freezeFirst, edit, settles, after, freedBy, valueOf, nextStore}
-use Rattle.rules.specs.Calls.{Ready, Did, answered, Effect, effect, effected, effectOf, refusedBy, acceptedBy, doneBy, listing, fresh}
+use Rattle.rules.specs.Tables.{Base, Tables, tablesOf, storeOn, storeOf, state, isFree, isDraft, isFrozen, holdsOf, finish}
+use Rattle.rules.specs.Commands.{Verdict, accepted, refused, firstOf, seatRefusals, tableRefusals, registerRefusals, noPiece, atLimit, noLine, verdict}
+use Rattle.rules.specs.Commands.{oneMore, freezeFirst, edit, settles, after, freedBy, valueOf, noted, nextTables, nextStore}
+use Rattle.rules.specs.Calls.{Ready, ReadyStore, answered, refusedBy, acceptedBy, doneBy, listing, fresh, Effect, effect, effected, effectOf, Did}
+use Rattle.rules.specs.Register.{heldBy, isFull, oneMoreBy}
 use Rattle.rules.specs.declared.Refusal.{Refusal}
-use Rattle.rules.specs.declared.Refusal.the-variants.{Number, Free, State, Limit}
+use Rattle.rules.specs.declared.Refusal.the-variants.{Number, Free, State, Limit, Register}
 use Rattle.rules.specs.declared.Command.the-variants.{Freeze, Acquire}
 use Rattle.rules.specs.declared.Answer.{Answer}
 use Rattle.rules.specs.declared.Answer.the-variants.{Refused}
 use Rattle.rules.specs.Lists.{_!_}
+use Rattle.laws.specs.ByTables.{DidTables, tablesEffect}
 use Rattle.laws.specs.Below.{pick-true}
 use Rattle.laws.specs.Words.{neqb-of, isDraft→, →isFrozen}
-use Rattle.laws.specs.Passes.{applies, Passes, not-by, passes, live-frozen}
-use Rattle.laws.specs.Verdicts.{accepts, refuses, did-refused, did-accepted}
-use Rattle.laws.specs.Calls.{double-not}
+use Rattle.laws.specs.Passes.{applies, Passes, not-by, passes, live-frozen, tableVerdict}
+use Rattle.laws.specs.ByTables.{accepts, refuses, did-refused, did-accepted}
+use Rattle.laws.specs.Rows.{andThen}
+use Rattle.laws.specs.Verdicts.{seatVerdict, registerVerdict, verdict-is, all-accept}
+use Rattle.laws.specs.Seated.{freeze-adds, any-freeze, refused-tables, refused-line, done-more}
+use Rattle.laws.specs.Calls.{double-not, ready-tables}
 use Rattle.laws.specs.Tests.{same-test}
 use Rattle.tallies.specs.Stores.{wells-of}
+use Rattle.holding.specs.Acquired.{none-said, room-said}
 
 and-off : (x y : Bool) → T (not x) → T (not (x & y))
 and-off true y t = absurd t
 and-off false y t = tt
 
-pub freeze-number : {s : Store} {p : ℕ} → s .base .n ≤ p → Did (Freeze p) s [] (effect (answered (Refused Number)) s [])
-unfolding refusedBy refusals
-freeze-number {s} {p} h =
+by-number : {s : Tables} {p : ℕ} → s .base .n ≤ p → DidTables (Freeze p 0) s [] (tablesEffect (answered (Refused Number)) s [])
+unfolding refusedBy tableRefusals
+by-number {s} {p} h =
     let n : ℕ = s .base .n in
-    did-refused (Freeze p) s [] Number (refuses 0 (s .base) (Freeze p) Number tt (not-T (ltb p n) (λ t. let x = ltb→lt p n t in omega arith), refl))
+    did-refused (Freeze p 0) s [] Number (refuses 0 (s .base) (Freeze p 0) Number tt (not-T (ltb p n) (λ t. let x = ltb→lt p n t in omega arith), refl))
 
-module _ {s : Store} (ready : Ready s) {p : ℕ} (h : p < s .base .n) where
+module _ {s : Tables} (ready : Ready s) {p : ℕ} (h : p < s .base .n) where
   abbrev b : Base
   b = s .base
 
   known : T (not (noPiece b p))
   known = double-not (ltb p (b .n)) (lt→ltb p (b .n) h)
 
-  -- a draft is frozen
-  pub freeze-did : s .base .states ! p ≡ 1 → {s′ : Store} → s′ ≡ nextStore s (Freeze p) → {r : Answer} → r ≡ fresh → Did (Freeze p) s [] (effect (answered r) s′ [])
-  freeze-did e {s′} same {r} is = subst (Did (Freeze p) s []) (sym all) (did-accepted (Freeze p) s [] (accepts draft-passes))
-    where
-      draft-passes : Passes b (Freeze p)
-      draft-passes = unfold refusals atLimit isFree isFrozen state in (record {
-        rows = (
-          known,
-          (
-            neqb-of {m = b .states ! p} {n = 0} (λ x. omega arith),
-            (and-off (eqb (b .states ! p) 2) (leb mostHolds (holdsOf b p)) (neqb-of {m = b .states ! p} {n = 2} (λ x. omega arith)), tt),
-          ),
-        );
-      })
+  -- ---- a draft
 
-      reply : answered r ≡ acceptedBy s (Freeze p)
-      reply = unfold acceptedBy doneBy valueOf freedBy settles in (ap answered is)
+  module _ (e : s .base .states ! p ≡ 1) where
+    draft-passes : Passes b (Freeze p 0)
+    unfolding tableRefusals atLimit isFree isFrozen state
+    draft-passes = record {
+      rows = (
+        known,
+        (
+          neqb-of {m = b .states ! p} {n = 0} (λ x. omega arith),
+          (and-off (eqb (b .states ! p) 2) (leb mostHolds (holdsOf b p)) (neqb-of {m = b .states ! p} {n = 2} (λ x. omega arith)), tt),
+        ),
+      );
+    }
 
-      nothing : [] ≡ listing (freedBy b (Freeze p)) []
-      nothing = unfold listing freedBy settles in refl
+    -- no seat is refused by the tables
+    draft-accepted : (i : ℕ) → tableVerdict b (Freeze p i) ≡ accepted
+    unfolding tableVerdict tableRefusals
+    draft-accepted i = accepts draft-passes
 
-      all : effect (answered r) s′ [] ≡ effect (acceptedBy s (Freeze p)) (nextStore s (Freeze p)) (listing (freedBy b (Freeze p)) [])
-      all = λ i. record { reply = reply i; store = same i; list = nothing i }
+    -- it is frozen
+    draft-did : {s′ : Tables} → s′ ≡ nextTables s (Freeze p 0) → DidTables (Freeze p 0) s [] (tablesEffect (answered fresh) s′ [])
+    draft-did {s′} same = record { exact = all ∙ did-accepted (Freeze p 0) s [] (accepts draft-passes) .exact }
+      where
+        reply : answered fresh ≡ acceptedBy s (Freeze p 0)
+        reply = unfold acceptedBy doneBy valueOf freedBy settles in refl
 
-  -- of a piece that is no draft, freeze does what acquire does
-  module _ (d : s .base .states ! p ≡ 1 → ⊥) where
+        nothing : [] ≡ listing (freedBy b (Freeze p 0)) []
+        nothing = unfold listing freedBy settles in refl
+
+        all : tablesEffect (answered fresh) s′ [] ≡ tablesEffect (acceptedBy s (Freeze p 0)) (nextTables s (Freeze p 0)) (listing (freedBy b (Freeze p 0)) [])
+        all = λ i. record { reply = reply i; tables = same i; list = nothing i }
+
+  -- ---- a piece that is no draft: freeze does what acquire does
+
+  module _ (d : s .base .states ! p ≡ 1 → ⊥) (i : ℕ) where
     no-draft : false ≡ isDraft b p
     no-draft = same-test false (isDraft b p) (λ t. absurd t) (λ t. absurd (d (unfold state in (isDraft→ b p h t .is))))
 
     rows : Bool → List (Bool × Refusal)
     rows t = (noPiece b p, Number) ∷ (isFree b p, Free) ∷ (t, State) ∷ (atLimit b p, Limit) ∷ []
 
-    same-verdict : verdict b (Freeze p) ≡ verdict b (Acquire p)
-    same-verdict = freezes ∙ ap (λ (t : Bool). firstOf (rows t)) no-draft ∙ sym acquires
+    same-by-tables : tableVerdict b (Freeze p i) ≡ tableVerdict b (Acquire p i)
+    same-by-tables = freezes ∙ ap (λ (t : Bool). firstOf (rows t)) no-draft ∙ sym acquires
       where
-        freezes : verdict b (Freeze p) ≡ firstOf (rows false)
-        freezes = unfold verdict refusals firstOf rows in refl
+        freezes : tableVerdict b (Freeze p i) ≡ firstOf (rows false)
+        freezes = unfold tableVerdict tableRefusals firstOf rows in refl
 
-        acquires : verdict b (Acquire p) ≡ firstOf (rows (isDraft b p))
-        acquires = unfold verdict refusals firstOf rows in refl
+        acquires : tableVerdict b (Acquire p i) ≡ firstOf (rows (isDraft b p))
+        acquires = unfold tableVerdict tableRefusals firstOf rows in refl
 
-    same-effect : (v : Verdict) → verdict b (Acquire p) ≡ v → effected s [] (Acquire p) v ≡ effected s [] (Freeze p) v
-    same-effect (refused r) e = unfold effected refusedBy in refl
-    same-effect accepted e = unfold effected in (λ i. record { reply = reply i; store = store i; list = nothing i })
+    same-verdict : (l : List ℕ) → verdict (storeOn s l) (Freeze p i) ≡ verdict (storeOn s l) (Acquire p i)
+    same-verdict l =
+        verdict-is (storeOn s l) (Freeze p i)
+        ∙ ap (λ (v : Verdict). andThen (seatVerdict (Freeze p i)) (andThen v (registerVerdict l (Freeze p i)))) same-by-tables
+        ∙ (λ k. andThen (seat k) (andThen (tableVerdict b (Acquire p i)) (line k)))
+        ∙ sym (verdict-is (storeOn s l) (Acquire p i))
       where
-        ps : Passes b (Acquire p)
-        ps = passes b (Acquire p) e
+        seat : seatVerdict (Freeze p i) ≡ seatVerdict (Acquire p i)
+        seat = unfold seatVerdict seatRefusals in refl
+
+        line : registerVerdict l (Freeze p i) ≡ registerVerdict l (Acquire p i)
+        line = unfold registerVerdict registerRefusals in refl
+
+    same-effect : (l : List ℕ) (v : Verdict) → verdict (storeOn s l) (Acquire p i) ≡ v → effected (storeOn s l) [] (Acquire p i) v ≡ effected (storeOn s l) [] (Freeze p i) v
+    same-effect l (refused r) e = unfold effected refusedBy in refl
+    same-effect l accepted e = unfold effected nextStore in (λ k. effect (reply k) (storeOn (tables k) (line k)) (nothing k))
+      where
+        ps : Passes b (Acquire p i)
+        ps = passes b (Acquire p i) (all-accept e .tables)
 
         frozen : T (isFrozen b p)
-        frozen = →isFrozen b p (live-frozen b p (wells-of s ready p h) (unfold refusals applies in (not-by ps Free)) (unfold refusals applies in (not-by ps State)))
+        frozen = →isFrozen b p (live-frozen b p (wells-of s ready p h) (unfold tableRefusals applies in (not-by ps Free)) (unfold tableRefusals applies in (not-by ps State)))
 
-        reply : acceptedBy s (Acquire p) ≡ acceptedBy s (Freeze p)
+        reply : acceptedBy s (Acquire p i) ≡ acceptedBy s (Freeze p i)
         reply = unfold acceptedBy doneBy valueOf freedBy settles in refl
 
-        store : nextStore s (Acquire p) ≡ nextStore s (Freeze p)
-        store = unfold nextStore after settles edit in (ap finish (sym (pick-true (isFrozen b p) (oneMore b p) (freezeFirst b p) frozen)))
+        tables : nextTables s (Acquire p i) ≡ nextTables s (Freeze p i)
+        tables = unfold nextTables after settles edit in (ap finish (sym (pick-true (isFrozen b p) (oneMore b p) (freezeFirst b p) frozen)))
 
-        nothing : listing (freedBy b (Acquire p)) [] ≡ listing (freedBy b (Freeze p)) []
+        line : noted l (Acquire p i) ≡ noted l (Freeze p i)
+        line = unfold noted in refl
+
+        nothing : listing (freedBy b (Acquire p i)) [] ≡ listing (freedBy b (Freeze p i)) []
         nothing = unfold freedBy settles in refl
 
-    pub again-did : {o : Effect} → Did (Acquire p) s [] o → Did (Freeze p) s [] o
-    unfolding effectOf
-    again-did x = record { exact = x .exact ∙ same-effect (verdict b (Acquire p)) refl ∙ ap (effected s [] (Freeze p)) (sym same-verdict) }
+-- ---- the arms of freeze
+
+module _ {n p seat : ℕ} {states links leaders holds counts register : List ℕ} (sits : seat < 32) where
+  pub freeze-number : n ≤ p → Did (Freeze p seat) (storeOf n states links leaders holds counts register) []
+      (effect (answered (Refused Number)) (storeOf n states links leaders holds counts register) [])
+  freeze-number h = refused-tables (freeze-adds .seat) sits (any-freeze (by-number h))
+
+module _ {n p seat : ℕ} {states links leaders holds counts register : List ℕ} (ready : ReadyStore (storeOf n states links leaders holds counts register))
+    (sits : seat < 32) (below : p < n) where
+  -- a draft, and no line is free
+  pub freeze-crowded : {r : Bool} → states ! p ≡ 1 → not r ≡ true → r ≡ not (eqb (heldBy register seat p) 0 & isFull register)
+      → Did (Freeze p seat) (storeOf n states links leaders holds counts register) []
+      (effect (answered (Refused Register)) (storeOf n states links leaders holds counts register) [])
+  unfolding noLine
+  freeze-crowded {r} is none said =
+      refused-line freeze-adds sits (draft-accepted (ready-tables ready) below is seat) (none-said r (noLine register seat p) none said)
+
+  -- a draft that is frozen
+  pub freeze-did : {r : Bool} {states′ leaders′ holds′ counts′ register′ : List ℕ} {a : Answer} → states ! p ≡ 1
+      → not r ≡ false → r ≡ not (eqb (heldBy register seat p) 0 & isFull register)
+      → tablesOf n states′ links leaders′ holds′ counts′ ≡ nextTables (tablesOf n states links leaders holds counts) (Freeze p 0)
+      → register′ ≡ oneMoreBy register seat p → a ≡ fresh
+      → Did (Freeze p seat) (storeOf n states links leaders holds counts register) []
+      (effect (answered a) (storeOf n states′ links leaders′ holds′ counts′ register′) [])
+  unfolding noLine
+  freeze-did {r} {states′} {leaders′} {holds′} {counts′} is room said same more answers = record {
+    exact =
+        (λ k. effect (answered (answers k)) (storeOn (tablesOf n states′ links leaders′ holds′ counts′) (more k)) [])
+        ∙ done-more freeze-adds sits (room-said r (noLine register seat p) room said) (any-freeze (draft-did (ready-tables ready) below is same)) refl .exact;
+  }
+
+  -- any other piece
+  pub again-did : {o : Effect} → (states ! p ≡ 1 → ⊥) → Did (Acquire p seat) (storeOf n states links leaders holds counts register) [] o
+      → Did (Freeze p seat) (storeOf n states links leaders holds counts register) [] o
+  unfolding effectOf
+  again-did d x = record {
+    exact =
+        x .exact
+        ∙ same-effect (ready-tables ready) below d seat register (verdict (storeOf n states links leaders holds counts register) (Acquire p seat)) refl
+        ∙ ap (effected (storeOf n states links leaders holds counts register) [] (Freeze p seat)) (sym (same-verdict (ready-tables ready) below d seat register));
+  }

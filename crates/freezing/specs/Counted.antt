@@ -7,7 +7,7 @@ use native.Mathlib.Omega.{arith}
 use lib.ListN.{length, set}
 use Rattle.rules.specs.Limits.{none}
 use Rattle.rules.specs.Reach.{here}
-use Rattle.rules.specs.Tables.{Base, Store, state, linkAt, holdsOf}
+use Rattle.rules.specs.Tables.{Base, Tables, state, linkAt, holdsOf}
 use Rattle.rules.specs.Words.{Frozen, Reaches, Well, wfree, wdraft, wfrozen}
 use Rattle.rules.specs.Lists.{_!_}
 use Rattle.laws.specs.Words.{end-below}
@@ -25,7 +25,7 @@ use Rattle.recounting.specs.Fresh.{freshLeaders, fresh-n, fresh-on, fresh-off, 
 use Rattle.freezing.specs.Freezable.{Freezable}
 use Rattle.freezing.specs.Joined.{Joined, Apart, tally-joined}
 
-module _ {s : Store} {work : List ℕ} {p : ℕ} (d : Freezable s work p) {work′ : List ℕ}
+module _ {s : Tables} {work : List ℕ} {p : ℕ} (d : Freezable s work p) {work′ : List ℕ}
     (m : Grouped (s .base .n) (s .base .links) (ReachedFrom (s .base .n) (s .base .states) (s .base .links) 1 p) work work′) where
   abbrev b : Base
   b = s .base

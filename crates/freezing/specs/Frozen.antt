@@ -11,9 +11,9 @@ use lib.Seq.{ext-getD}
 use Rattle.rules.specs.Tests.{_&_, pick}
 use Rattle.rules.specs.Limits.{none}
 use Rattle.rules.specs.Below.{table}
-use Rattle.rules.specs.Tables.{storeOn, Base, Store, state, isDraft, isFrozen, linkAt, reaches, finish, storeOf}
+use Rattle.rules.specs.Tables.{tablesOn, Base, Tables, state, isDraft, isFrozen, linkAt, reaches, finish, tablesOf}
 use Rattle.rules.specs.Words.{Frozen, Reaches, Leader}
-use Rattle.rules.specs.Commands.{oneMore, freezeFirst, edit, settles, after, nextStore}
+use Rattle.rules.specs.Commands.{oneMore, freezeFirst, edit, settles, after, nextTables}
 use Rattle.rules.specs.declared.Command.the-variants.{Freeze}
 use Rattle.rules.specs.Lists.{_!_}
 use Rattle.laws.specs.Tests.{and-both, and-left, and-right}
@@ -32,7 +32,7 @@ use Rattle.tallies.specs.Finished.{finished}
 use Rattle.recounting.specs.MadeFrozen.{MadeFrozen}
 use Rattle.freezing.specs.Freezable.{Freezable}
 
-module _ {s : Store} {work : List ℕ} {p : ℕ} (d : Freezable s work p) where
+module _ {s : Tables} {work : List ℕ} {p : ℕ} (d : Freezable s work p) where
   abbrev b : Base
   b = s .base
 
@@ -156,12 +156,12 @@ module _ {s : Store} {work : List ℕ} {p : ℕ} (d : Freezable s work p) where
     -- ---- the whole freeze
 
     pub frozen : {counts′ : List ℕ} → length counts′ ≡ s .base .n → CountsMatch (s .base .n) (s .base .links) (set (s .base .holds) p 1) leaders′ counts′
-        → storeOf (s .base .n) states′ (s .base .links) leaders′ (set (s .base .holds) p 1) counts′ ≡ nextStore s (Freeze p)
-    unfolding nextStore b′ freezeFirst
+        → tablesOf (s .base .n) states′ (s .base .links) leaders′ (set (s .base .holds) p 1) counts′ ≡ nextTables s (Freeze p 0)
+    unfolding nextTables b′ freezeFirst
     frozen {counts′} z c = tables ∙ finished b′ leaders′ exact′ (good′ .wells) counts′ z c ∙ ap finish (sym after-is)
       where
-        tables : storeOf n states′ (b .links) leaders′ (set (b .holds) p 1) counts′ ≡ storeOn b′ leaders′ counts′
-        tables = ap (λ (x : List ℕ). storeOf n x (b .links) leaders′ (set (b .holds) p 1) counts′) states-are
+        tables : tablesOf n states′ (b .links) leaders′ (set (b .holds) p 1) counts′ ≡ tablesOn b′ leaders′ counts′
+        tables = ap (λ (x : List ℕ). tablesOf n x (b .links) leaders′ (set (b .holds) p 1) counts′) states-are
 
-        after-is : after b (Freeze p) ≡ freezeFirst b p
+        after-is : after b (Freeze p 0) ≡ freezeFirst b p
         after-is = unfold after settles edit in (pick-false (isFrozen b p) (oneMore b p) (freezeFirst b p) (not-frozen b p 1 (unfold state in (d .is)) tt))

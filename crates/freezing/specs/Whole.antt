@@ -6,10 +6,10 @@ use Prim.Native.Nat.{ℕ, _+_, _*_, _≤_, _<_}
 use native.Mathlib.Omega.{arith}
 use lib.ListN.{length, length-set, set, drop, take, replicate, length-replicate, getD-replicate, take-append-drop}
 use lib.Seq.{ext-getD, getD-take, length-take-le}
-use Rattle.rules.specs.Tables.{storeOf}
+use Rattle.rules.specs.Tables.{tablesOf}
 use Rattle.rules.specs.Lists.{_!_}
-use Rattle.rules.specs.Tables.{Store}
-use Rattle.rules.specs.Commands.{nextStore}
+use Rattle.rules.specs.Tables.{Tables}
+use Rattle.rules.specs.Commands.{nextTables}
 use Rattle.rules.specs.declared.Command.the-variants.{Freeze}
 use Rattle.paths.specs.Classes.{drafts-closed}
 use Rattle.tallies.specs.Stores.{wells-of}
@@ -31,7 +31,7 @@ front-zeros k w h z = ap (λ (f : List ℕ). f ++ drop k w) (sym front) ∙ take
         let m : i < k = subst (λ (x : ℕ). i < x) size l in
         getD-take k w i 0 m ∙ z i m ∙ sym (getD-replicate k i 0 0 m))
 
-module _ {s : Store} {work : List ℕ} {p : ℕ} (d : Freezable s work p) where
+module _ {s : Tables} {work : List ℕ} {p : ℕ} (d : Freezable s work p) where
   abbrev n : ℕ
   n = s .base .n
 
@@ -78,8 +78,8 @@ module _ {s : Store} {work : List ℕ} {p : ℕ} (d : Freezable s work p) where
       pub leader-room : counts′ ! (leaders′ ! p) < 1028097
       leader-room = leader-few d (f .grouped) t
 
-      pub freezes : storeOf (s .base .n) states′ (s .base .links) leaders′ (set (s .base .holds) p 1) (set counts′ (leaders′ ! p) (counts′ ! (leaders′ ! p) + 1))
-          ≡ nextStore s (Freeze p)
+      pub freezes : tablesOf (s .base .n) states′ (s .base .links) leaders′ (set (s .base .holds) p 1) (set counts′ (leaders′ ! p) (counts′ ! (leaders′ ! p) + 1))
+          ≡ nextTables s (Freeze p 0)
       freezes =
           frozen d (f .grouped) (t .made) (length-set counts′ (leaders′ ! p) (counts′ ! (leaders′ ! p) + 1) ∙ t .counted .added .size ∙ d .ready .sized .counts)
           (hold-counted d (f .grouped) t)

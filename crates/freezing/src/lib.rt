@@ -1,12 +1,12 @@
-// The work of freeze on sound tables: groups are found once, at freeze.
+// Freeze by a seat, on a sound store: groups are found once, at freeze.
 ghost use mathlib.Core.Path.{_≡_};
 ghost use mathlib.Core.List.{[]};
 ghost use mathlib.Core.Bool.{true};
 ghost use Prim.Native.Nat.{_+_, _*_, _≤_, _<_};
 ghost use lib.ListN.{length};
-ghost use Rattle.rules.specs.Tables.{storeOf};
-ghost use Rattle.rules.specs.Calls.{Ready, Clear, Did, answered, effect};
-ghost use Rattle.rules.specs.Commands.{nextStore};
+ghost use Rattle.rules.specs.Tables.{tablesOf, storeOf};
+ghost use Rattle.rules.specs.Calls.{ReadyStore, Clear, Did, answered, effect};
+ghost use Rattle.rules.specs.Commands.{nextTables};
 ghost use Rattle.rules.specs.declared.Command.the-variants.{Freeze};
 ghost use Rattle.freezing.specs.Freezable.{Freezable};
 ghost use Rattle.freezing.specs.Lone.{Lone, Findable, Found, wiped};
@@ -73,9 +73,9 @@ fn freeze_draft(
     work: &mut [u32],
     p: usize,
 )
-    requires { ⌜ Freezable (storeOf n (now states) (now links) (now leaders) (now holds) (now counts)) (now work) p ⌝ }
-    ensures frozen { λ _. ⌜ storeOf n (now (states .exit)) (now (links .entry)) (now (leaders .exit)) (now (holds .exit)) (now (counts .exit))
-        ≡ nextStore (storeOf n (now (states .entry)) (now (links .entry)) (now (leaders .entry)) (now (holds .entry)) (now (counts .entry))) (Freeze p) ⌝ }
+    requires { ⌜ Freezable (tablesOf n (now states) (now links) (now leaders) (now holds) (now counts)) (now work) p ⌝ }
+    ensures frozen { λ _. ⌜ tablesOf n (now (states .exit)) (now (links .entry)) (now (leaders .exit)) (now (holds .exit)) (now (counts .exit))
+        ≡ nextTables (tablesOf n (now (states .entry)) (now (links .entry)) (now (leaders .entry)) (now (holds .entry)) (now (counts .entry))) (Freeze p 0) ⌝ }
     ensures clear { λ _. ⌜ now (work .exit) ≡ now (work .entry) ⌝ }
 {
     let alone = find(n, states, links, work, p);
@@ -86,7 +86,7 @@ fn freeze_draft(
     wipe(n, work, p, alone);
 }
 
-// P and every draft it reaches become frozen; P gets one hold. If P is frozen already it only gets one more hold.
+// P and every draft it reaches become frozen; P gets one hold of the seat's. If P is frozen already it only gets one more.
 pub fn freeze(
     n: usize,
     states: &mut [u8],
@@ -94,21 +94,32 @@ pub fn freeze(
     leaders: &mut [u16],
     holds: &mut [u16],
     counts: &mut [u32],
+    register: &mut [u16],
     work: &mut [u32],
     p: u16,
+    seat: u16,
 ) -> Answer
-    requires { ⌜ Ready (storeOf n (now states) (now links) (now leaders) (now holds) (now counts)) × Clear n (now work) ⌝ }
-    ensures did { λ r. ⌜ Did (Freeze p) (storeOf n (now (states .entry)) (now (links .entry)) (now (leaders .entry)) (now (holds .entry)) (now (counts .entry))) []
-        (effect (answered r) (storeOf n (now (states .exit)) (now (links .entry)) (now (leaders .exit)) (now (holds .exit)) (now (counts .exit))) []) ⌝ }
+    requires { ⌜ ReadyStore (storeOf n (now states) (now links) (now leaders) (now holds) (now counts) (now register)) × Clear n (now work) ⌝ }
+    ensures did { λ r. ⌜ Did (Freeze p seat)
+        (storeOf n (now (states .entry)) (now (links .entry)) (now (leaders .entry)) (now (holds .entry)) (now (counts .entry)) (now (register .entry))) []
+        (effect (answered r) (storeOf n (now (states .exit)) (now (links .entry)) (now (leaders .exit)) (now (holds .exit)) (now (counts .exit)) (now (register .exit))) []) ⌝ }
     ensures clear { λ _. ⌜ now (work .exit) ≡ now (work .entry) ⌝ }
 {
+    if Store::SEATS <= seat {
+        return Answer::Refused(Refusal::Seat);
+    }
     let q = p as usize;
     if n <= q {
         return Answer::Refused(Refusal::Number);
     }
     if states[q] == Store::DRAFT {
+        let line = register::find(register, seat, p);
+        if !register::has_room(register, line, seat, p) {
+            return Answer::Refused(Refusal::Register);
+        }
         freeze_draft(n, states, links, leaders, holds, counts, work, q);
+        register::more(register, line, seat, p);
         return Store::fresh();
     }
-    holding::acquire(n, states, leaders, holds, counts, p)
+    holding::acquire(n, states, leaders, holds, counts, register, p, seat)
 }

@@ -9,28 +9,29 @@ use lib.Dec.{T-not, not-T, eqb, eqb→eq}
 use lib.ListN.{getD, set}
 use lib.Seq.{getD-set-same, getD-set-other}
 use Rattle.rules.specs.Below.{every}
-use Rattle.rules.specs.Tables.{Base, Store, state, isFree, linkAt, finish}
+use Rattle.rules.specs.Tables.{Base, Tables, state, isFree, linkAt, finish}
 use Rattle.rules.specs.Words.{Well}
-use Rattle.rules.specs.Commands.{noneFree, refusals, withStates, firstFree, edit, settles, freedBy, after, valueOf, nextStore}
-use Rattle.rules.specs.Tables.{storeOf}
-use Rattle.rules.specs.Calls.{Ready, Did, answered, effect, doneBy, acceptedBy, refusedBy, listing}
+use Rattle.rules.specs.Commands.{noneFree, tableRefusals, withStates, firstFree, edit, settles, freedBy, after, valueOf, nextTables}
+use Rattle.rules.specs.Tables.{tablesOf}
+use Rattle.rules.specs.Calls.{Ready, answered, doneBy, acceptedBy, refusedBy, listing}
 use Rattle.rules.specs.declared.Refusal.the-variants.{Full}
 use Rattle.rules.specs.declared.Command.the-variants.{New}
 use Rattle.rules.specs.declared.Answer.the-variants.{Done, Refused}
+use Rattle.laws.specs.ByTables.{DidTables, tablesEffect}
 use Rattle.laws.specs.Below.{→every, every→}
 use Rattle.laws.specs.Words.{eqb-of, neqb-of}
 use Rattle.laws.specs.Delta.{SameFrozen}
 use Rattle.laws.specs.Passes.{Passes}
 use Rattle.laws.specs.Commands.{first-free, edit-well}
-use Rattle.laws.specs.Verdicts.{accepts, refuses, did-refused, did-accepted}
+use Rattle.laws.specs.ByTables.{accepts, refuses, did-refused, did-accepted}
 use Rattle.tallies.specs.Stores.{exact-moves, good-of, wells-of, exact-of, match-of}
 use Rattle.tallies.specs.Finished.{finished}
 use Rattle.areas.specs.Lowest.{LowestFree}
 
 -- no number is free
-pub full-did : {s : Store} {r : ℕ} → LowestFree (s .base .n) (s .base .states) r → r ≡ s .base .n
-    → Did New s [] (effect (answered (Refused Full)) s [])
-unfolding refusedBy refusals noneFree isFree state
+pub full-did : {s : Tables} {r : ℕ} → LowestFree (s .base .n) (s .base .states) r → r ≡ s .base .n
+    → DidTables New s [] (tablesEffect (answered (Refused Full)) s [])
+unfolding refusedBy tableRefusals noneFree isFree state
 full-did {s} f e =
     did-refused New s [] Full
     (refuses 0 (s .base) New Full tt (
@@ -39,12 +40,12 @@ full-did {s} f e =
       refl,
     ))
 
-module _ {s : Store} {r : ℕ} (ready : Ready s) (f : LowestFree (s .base .n) (s .base .states) r) (h : r < s .base .n) where
+module _ {s : Tables} {r : ℕ} (ready : Ready s) (f : LowestFree (s .base .n) (s .base .states) r) (h : r < s .base .n) where
   abbrev b : Base
   b = s .base
 
   new-passes : Passes b New
-  unfolding refusals noneFree isFree state
+  unfolding tableRefusals noneFree isFree state
   new-passes = record {
     rows = (
       not-T (every (λ p. not (eqb (getD (b .states) p 0) 0)) (b .n))
@@ -62,8 +63,8 @@ module _ {s : Store} {r : ℕ} (ready : Ready s) (f : LowestFree (s .base .n) (s
       let least : (firstFree b < r) → ⊥ = λ l. f .before (firstFree b) l (eqb→eq (getD (b .states) (firstFree b) 0) 0 (x .is)) in
       omega arith
 
-  abbrev s′ : Store
-  s′ = storeOf (b .n) (set (b .states) r 1) (b .links) (s .leaders) (b .holds) (s .counts)
+  abbrev s′ : Tables
+  s′ = tablesOf (b .n) (set (b .states) r 1) (b .links) (s .leaders) (b .holds) (s .counts)
 
   abbrev b′ : Base
   b′ = s′ .base
@@ -112,17 +113,17 @@ module _ {s : Store} {r : ℕ} (ready : Ready s) (f : LowestFree (s .base .n) (s
     links = λ p k x i. refl;
   }
 
-  next-is : s′ ≡ nextStore s New
-  unfolding nextStore withStates
+  next-is : s′ ≡ nextTables s New
+  unfolding nextTables withStates
   next-is =
       finished b′ (s .leaders) (exact-moves b b′ (s .leaders) (wells-of s ready) wells′ frozen-on frozen-back (exact-of s ready)) wells′ (s .counts)
       (ready .sized .counts) (match-of s ready)
       ∙ ap finish (sym after-is)
 
-  pub new-did : Did New s [] (effect (answered (Done r 0)) s′ [])
+  pub new-did : DidTables New s [] (tablesEffect (answered (Done r 0)) s′ [])
   unfolding acceptedBy doneBy valueOf freedBy settles listing
   new-did = record {
     exact =
-        (λ i. record { reply = answered (Done (sym first-is i) 0); store = next-is i; list = [] })
+        (λ i. record { reply = answered (Done (sym first-is i) 0); tables = next-is i; list = [] })
         ∙ did-accepted New s [] (accepts new-passes) .exact;
   }

@@ -1,19 +1,19 @@
--- The nine calls: a promise decides, a refused call leaves the store and the list, an accepted one leaves a sound store (demand 2).
+-- The nine calls: a promise decides, a refused call leaves the store and the list, and the inner door leads to the promise.
 use mathlib.Core.Path.{_≡_, refl, sym, ap, _∙_, subst}
 use mathlib.Core.Bool.{Bool, true, false, not}
 use mathlib.Core.List.{List, [], _∷_}
-use Prim.Native.Nat.{ℕ, _+_, _*_, _≤_}
+use Prim.Native.Nat.{ℕ, _*_, _≤_}
 use native.Mathlib.Omega.{arith}
 use lib.Dec.{T, T-not, eqb, leb, eqb→eq, leb→le, le→leb}
-use lib.ListN.{length, length-replicate, getD-replicate}
+use lib.ListN.{length}
 use Rattle.rules.specs.Tests.{_or_, _&_, pick}
-use Rattle.rules.specs.Limits.{most, none}
-use Rattle.rules.specs.Tables.{Base, Store, state, linkAt, holdsOf, isSound, empty}
-use Rattle.rules.specs.Words.{Sized, free}
+use Rattle.rules.specs.Limits.{most, entries}
+use Rattle.rules.specs.Tables.{Tables, Store, isSoundStore}
+use Rattle.rules.specs.Words.{Sized, SizedStore}
 use Rattle.rules.specs.Commands.{isLook, pieceOf, Verdict, accepted, refused, firstOf, refusals, verdict}
 use Rattle.rules.specs.Calls.{answered, saw, Call, start, does, check, Areas, areasOf, numberOf, checked, Outcome, outcome, refusedBy}
-use Rattle.rules.specs.Calls.{refusedCall, seenAt, doneBy, acceptedBy, Effect, effected, effectOf, takesWork, isSized}
-use Rattle.rules.specs.Calls.{isLent, laterRefusals, callRefusals, judge, clear, cleared, acceptedCall, ended, outcomeOf, Promise, Did}
+use Rattle.rules.specs.Calls.{refusedCall, seenAt, doneBy, acceptedBy, Effect, effected, effectOf, takesWork, isSized, isSizedStore}
+use Rattle.rules.specs.Calls.{isLent, laterRefusals, callRefusals, judge, clear, cleared, acceptedCall, ended, outcomeOf, Promise, Ready, ReadyStore, Did}
 use Rattle.rules.specs.History.{isAccepted}
 use Rattle.rules.specs.declared.Refusal.{Refusal}
 use Rattle.rules.specs.declared.Refusal.the-variants.{Size, Unsound}
@@ -24,9 +24,7 @@ use Rattle.rules.specs.declared.Seen.the-variants.{Unseen}
 use Rattle.laws.specs.Tests.{and-both, and-left, and-right}
 use Rattle.laws.specs.Below.{pick-true, pick-false}
 use Rattle.laws.specs.Words.{eqb-of}
-use Rattle.laws.specs.Sound.{isSound→}
-use Rattle.laws.specs.Passes.{not-not, first-accepted, passes}
-use Rattle.laws.specs.Commands.{Ok, next-ok}
+use Rattle.laws.specs.Passes.{not-not, first-accepted}
 use Rattle.laws.specs.Verdicts.{inOrder, table, by-table}
 
 -- promises decide: two outcomes, with all areas, that both meet a call's promise are the same
@@ -35,7 +33,7 @@ decides p q = p .exact ∙ sym (q .exact)
 
 -- ---- sizes
 
-pub sized→ : (s : Store) → T (isSized s) → (1 ≤ s .base .n) × Sized s
+pub sized→ : (s : Tables) → T (isSized s) → (1 ≤ s .base .n) × Sized s
 unfolding isSized
 sized→ s t =
     let n = s .base .n in
@@ -57,7 +55,7 @@ sized→ s t =
       },
     )
 
-pub →sized : (s : Store) → 1 ≤ s .base .n → Sized s → T (isSized s)
+pub →sized : (s : Tables) → 1 ≤ s .base .n → Sized s → T (isSized s)
 unfolding isSized
 →sized s l z =
     let n = s .base .n in
@@ -68,9 +66,23 @@ unfolding isSized
     (and-both (eqb (length (s .leaders)) n) _ (eqb-of (z .leaders))
     (and-both (eqb (length (s .base .holds)) n) (eqb (length (s .counts)) n) (eqb-of (z .base .holds)) (eqb-of (z .counts)))))))
 
-pub lent-sized : (a : Areas) (c : Call) → T (isLent a c) → (1 ≤ a .store .base .n) × Sized (a .store)
+pub sized-store→ : (s : Store) → T (isSizedStore s) → (1 ≤ s .tables .base .n) × SizedStore s
+unfolding isSizedStore
+sized-store→ s t =
+    let x = sized→ (s .tables) (and-left (isSized (s .tables)) _ t) in
+    (x .0, record { tables = x .1; register = eqb→eq (length (s .register)) entries (and-right (isSized (s .tables)) _ t) })
+
+pub →sized-store : (s : Store) → 1 ≤ s .tables .base .n → SizedStore s → T (isSizedStore s)
+unfolding isSizedStore
+→sized-store s l z = and-both (isSized (s .tables)) _ (→sized (s .tables) l (z .tables)) (eqb-of (z .register))
+
+pub lent-sized : (a : Areas) (c : Call) → T (isLent a c) → (1 ≤ a .store .tables .base .n) × SizedStore (a .store)
 unfolding isLent
-lent-sized a c t = sized→ (a .store) (and-left (isSized (a .store)) _ t)
+lent-sized a c t = sized-store→ (a .store) (and-left (isSizedStore (a .store)) _ t)
+
+-- the tables of a ready store are ready
+pub ready-tables : {s : Store} → ReadyStore s → Ready (s .tables)
+ready-tables r = record { least = r .least; sized = r .sized .tables; sound = r .sound .tables }
 
 -- ---- accepted or refused
 
@@ -100,15 +112,15 @@ accepted-outcome a c e = ap (ended a c) e
 -- what holds of a call that is accepted
 pub record Accepted (a : Areas) (c : Command) : Type 0 where
   pub lent : T (isLent a (does c))
-  pub sound : T (isSound (a .store))
-  pub verdict : verdict (a .store .base) c ≡ accepted
+  pub sound : T (isSoundStore (a .store))
+  pub verdict : verdict (a .store) c ≡ accepted
 
 pub judged : (a : Areas) (c : Command) → judge a (does c) ≡ accepted → Accepted a c
 unfolding judge callRefusals laterRefusals
 judged a c e =
     let r1 = first-accepted (not (isLent a (does c))) _ _ e in
-    let r2 = first-accepted (not (isSound (a .store))) _ _ (r1 .1) in
-    record { lent = not-not (isLent a (does c)) (r1 .0); sound = not-not (isSound (a .store)) (r2 .0); verdict = unfold verdict in (r2 .1) }
+    let r2 = first-accepted (not (isSoundStore (a .store))) _ _ (r1 .1) in
+    record { lent = not-not (isLent a (does c)) (r1 .0); sound = not-not (isSoundStore (a .store)) (r2 .0); verdict = unfold verdict in (r2 .1) }
 
 -- every call answers an acceptance as one
 accepted-said : (c : Call) (a : Areas) → T (isAccepted (acceptedCall a c .reply))
@@ -116,10 +128,10 @@ unfolding acceptedCall isAccepted acceptedBy seenAt
 accepted-said start a = tt
 accepted-said (does c) a = go (isLook c)
   where
-    go : (b : Bool) → T (isAccepted (pick b (saw (seenAt (a .store) (pieceOf c))) (answered (doneBy (a .store .base) c))))
+    go : (b : Bool) → T (isAccepted (pick b (saw (seenAt (a .store .tables) (pieceOf c))) (answered (doneBy (a .store .tables .base) c))))
     go true = tt
     go false = unfold doneBy in tt
-accepted-said check a = go (isSound (a .store))
+accepted-said check a = go (isSoundStore (a .store))
   where
     go : (b : Bool) → T (isAccepted (checked (pick b Yes No)))
     go true = tt
@@ -138,34 +150,6 @@ refused-stays a c t = go (judge a c) t
     go accepted t = absurd (T-not (isAccepted (acceptedCall (cleared a c) c .reply)) t (accepted-said c (cleared a c)))
     go (refused r) t = same (eqb (numberOf r) 1) _
 
--- ---- demand 2
-
-pub empty-ok : (n : ℕ) → n ≤ most → Ok (empty n)
-unfolding empty state linkAt holdsOf
-empty-ok n h = record {
-  sized = record {
-    base = record { states = length-replicate n 0; links = length-replicate (4 * n) none; holds = length-replicate n 0; most = h };
-    leaders = length-replicate n none;
-    counts = length-replicate n 0;
-  };
-  sound = λ p l. free
-      (record { is = getD-replicate n p 0 0 l; links = λ k i. getD-replicate (4 * n) (4 * p + k) none 0 (omega arith); holds = getD-replicate n p 0 0 l })
-      (getD-replicate n p none 0 l) (getD-replicate n p 0 0 l);
-}
-
--- After every accepted call, but for check, the store is what the rules define: each area its length, and sound
-pub accepted-ok : (a : Areas) (c : Call) → judge a c ≡ accepted → (c ≡ check → ⊥) → Ok (outcomeOf a c .areas .store)
-accepted-ok a start e d =
-    rw (accepted-outcome a start e) (unfold acceptedCall cleared in (empty-ok (a .store .base .n) (lent-sized a start (start-lent e) .1 .base .most)))
-  where
-    start-lent : judge a start ≡ accepted → T (isLent a start)
-    start-lent e = unfold judge callRefusals in (not-not (isLent a start) (first-accepted (not (isLent a start)) _ _ e .0))
-accepted-ok a (does c) e d =
-    let j = judged a c e in
-    rw (accepted-outcome a (does c) e)
-    (unfold acceptedCall cleared in (next-ok (a .store) c (record { sized = lent-sized a (does c) (j .lent) .1; sound = isSound→ (a .store) (j .sound) }) (passes (a .store .base) c (j .verdict))))
-accepted-ok a check e d = absurd (d refl)
-
 -- ---- the inner door
 
 -- none of the rows is SIZE
@@ -182,43 +166,43 @@ first-later (q ∷ rs) r t e = go (q .0) e (λ u. first-later rs r (and-right (n
     go true e ih = let same : q .1 ≡ r = cc e in subst (λ (x : Refusal). T (not (eqb (numberOf x) 1))) same (and-left (not (eqb (numberOf (q .1)) 1)) (noSize rs) t)
     go false e ih = ih e
 
-pub not-size : (b : Base) (c : Command) (r : Refusal) → verdict b c ≡ refused r → T (not (eqb (numberOf r) 1))
-not-size b c r e = first-later (inOrder table (refusals b c)) r (unfold inOrder noSize in tt) (sym (by-table b c) ∙ e)
+pub not-size : (s : Store) (c : Command) (r : Refusal) → verdict s c ≡ refused r → T (not (eqb (numberOf r) 1))
+not-size s c r e = first-later (inOrder table (refusals s c)) r (unfold inOrder noSize in tt) (sym (by-table s c) ∙ e)
 
 pub double-not : (b : Bool) → T b → T (not (not b))
 double-not true t = tt
 double-not false t = t
 
-pub judge-through : (a : Areas) (c : Command) → T (isLent a (does c)) → T (isSound (a .store)) → judge a (does c) ≡ verdict (a .store .base) c
+pub judge-through : (a : Areas) (c : Command) → T (isLent a (does c)) → T (isSoundStore (a .store)) → judge a (does c) ≡ verdict (a .store) c
 unfolding judge callRefusals laterRefusals firstOf verdict
 judge-through a c l s =
-    pick-false (not (isLent a (does c))) _ _ (double-not (isLent a (does c)) l) ∙ pick-false (not (isSound (a .store))) _ _ (double-not (isSound (a .store)) s)
+    pick-false (not (isLent a (does c))) _ _ (double-not (isLent a (does c)) l) ∙ pick-false (not (isSoundStore (a .store))) _ _ (double-not (isSoundStore (a .store)) s)
 
 -- the effect of a command on sound tables is what its call does to store and list; work is clear
-pub through : (a : Areas) (c : Command) (o : Effect) → T (isLent a (does c)) → T (isSound (a .store)) → Did c (a .store) (a .list) o
-    → Promise (does c) a (outcome (o .reply) (areasOf (o .store) (o .list) (clear (a .store .base .n) (a .work))))
+pub through : (a : Areas) (c : Command) (o : Effect) → T (isLent a (does c)) → T (isSoundStore (a .store)) → Did c (a .store) (a .list) o
+    → Promise (does c) a (outcome (o .reply) (areasOf (o .store) (o .list) (clear (a .store .tables .base .n) (a .work))))
 unfolding effectOf outcomeOf
-through a c o l s d = record { exact = ap shape (d .exact) ∙ go (verdict (a .store .base) c) refl ∙ ap (ended a (does c)) (sym (judge-through a c l s)) }
+through a c o l s d = record { exact = ap shape (d .exact) ∙ go (verdict (a .store) c) refl ∙ ap (ended a (does c)) (sym (judge-through a c l s)) }
   where
     w : List ℕ
-    w = clear (a .store .base .n) (a .work)
+    w = clear (a .store .tables .base .n) (a .work)
 
     shape : Effect → Outcome
     shape e = outcome (e .reply) (areasOf (e .store) (e .list) w)
 
-    go : (v : Verdict) → verdict (a .store .base) c ≡ v → shape (effected (a .store) (a .list) c v) ≡ ended a (does c) v
+    go : (v : Verdict) → verdict (a .store) c ≡ v → shape (effected (a .store) (a .list) c v) ≡ ended a (does c) v
     go accepted e = unfold effected ended acceptedCall cleared takesWork in refl
-    go (refused r) e = unfold effected ended refusedCall cleared takesWork in (ap (outcome (refusedBy r c)) (sym (pick-false (eqb (numberOf r) 1) a _ (not-size (a .store .base) c r e))))
+    go (refused r) e = unfold effected ended refusedCall cleared takesWork in (ap (outcome (refusedBy r c)) (sym (pick-false (eqb (numberOf r) 1) a _ (not-size (a .store) c r e))))
 
 -- refused by UNSOUND
-pub flawed : (a : Areas) (c : Command) → T (isLent a (does c)) → T (not (isSound (a .store)))
-    → Promise (does c) a (outcome (refusedBy Unsound c) (areasOf (a .store) (a .list) (clear (a .store .base .n) (a .work))))
+pub flawed : (a : Areas) (c : Command) → T (isLent a (does c)) → T (not (isSoundStore (a .store)))
+    → Promise (does c) a (outcome (refusedBy Unsound c) (areasOf (a .store) (a .list) (clear (a .store .tables .base .n) (a .work))))
 unfolding outcomeOf
 flawed a c l s = record { exact = sym (ap (ended a (does c)) e ∙ (unfold ended refusedCall cleared takesWork in refl)) }
   where
     e : judge a (does c) ≡ refused Unsound
     e = unfold judge callRefusals laterRefusals firstOf in
-        (pick-false (not (isLent a (does c))) _ _ (double-not (isLent a (does c)) l) ∙ pick-true (not (isSound (a .store))) _ _ s)
+        (pick-false (not (isLent a (does c))) _ _ (double-not (isLent a (does c)) l) ∙ pick-true (not (isSoundStore (a .store))) _ _ s)
 
 -- refused by SIZE, and nothing is changed
 pub short : (a : Areas) (c : Call) → T (not (isLent a c)) → Promise c a (outcome (refusedCall Size c) a)

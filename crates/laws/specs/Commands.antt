@@ -1,4 +1,4 @@
--- Demand 2: each call leaves a sound store sound.
+-- Demand 2, over the tables: each accepted command leaves sound tables sound.
 use mathlib.Core.Path.{_≡_, refl, sym, _∙_, subst}
 use mathlib.Core.Logic.{_⊎_, inl, inr, ⊎-elim, _↔_}
 use mathlib.Core.Bool.{Bool, true, false, not}
@@ -13,17 +13,17 @@ use Rattle.rules.specs.Limits.{none}
 use Rattle.rules.specs.Below.{list}
 use Rattle.laws.specs.Below.{T-dec, pick-true, pick-false, length-table, Lowest, lowest-is, among-nil, among-list}
 use Rattle.rules.specs.Lists.{Among}
-use Rattle.rules.specs.Tables.{Base, Store, state, isFree, isFrozen, holdsOf, isKept, finish, leaderEntry, countEntry}
+use Rattle.rules.specs.Tables.{Base, Tables, state, isFree, isFrozen, holdsOf, isKept, finish, leaderEntry, countEntry}
 use Rattle.rules.specs.Words.{Frozen, Live, Kept, Sound, SizedBase, Sized}
 use Rattle.laws.specs.Words.{isFrozen→, →isFrozen, isKept→, →isKept}
 use Rattle.laws.specs.Sound.{Good, sound→entries, finish-sound}
 use Rattle.laws.specs.Settle.{settled-good}
-use Rattle.rules.specs.Commands.{Verdict, accepted, refused, atLimit, noneFree, refusals, withStates, withLinks, withHolds, oneMore, oneLess, freeAll}
-use Rattle.rules.specs.Commands.{gone, goneList, firstFree, freezeFirst, edit, settles, freedBy, after, verdict, nextStore, settled, stepTo}
+use Rattle.rules.specs.Commands.{atLimit, noneFree, tableRefusals, withStates, withLinks, withHolds, oneMore, oneLess, freeAll}
+use Rattle.rules.specs.Commands.{gone, goneList, firstFree, freezeFirst, edit, settles, freedBy, after, nextTables}
 use Rattle.rules.specs.declared.Refusal.the-variants.{Number, Free, State, Limit, Linked, Full}
 use Rattle.rules.specs.declared.Command.{Command}
 use Rattle.rules.specs.declared.Command.the-variants.{New, Set, Freeze, Acquire, Release, Bin, Look}
-use Rattle.laws.specs.Passes.{applies, Passes, not-by, Wells, frozen-of, live, live-draft, live-frozen, not-not, not-or-left, not-or-right, passes, some-not}
+use Rattle.laws.specs.Passes.{applies, Passes, not-by, Wells, frozen-of, live, live-draft, live-frozen, not-not, not-or-left, not-or-right, some-not}
 use Rattle.laws.specs.Edits.New.{new-good, newBase}
 use Rattle.laws.specs.Edits.Set.{set-well, setBase}
 use Rattle.laws.specs.Edits.Hold.{hold-good, hold-well, holdBase}
@@ -34,7 +34,7 @@ use Rattle.laws.specs.Edits.Bin.{bin-well}
 
 -- new has a free number to give
 pub first-free : (b : Base) → Passes b New → Lowest (isFree b) (b .n) (firstFree b)
-unfolding noneFree refusals applies firstFree
+unfolding noneFree tableRefusals applies firstFree
 first-free b c = let w = some-not (isFree b) (b .n) (not-by c Full) in lowest-is (isFree b) (b .n) (w .0) (w .1) (w .2)
 
 pub first-free-state : (b : Base) → Passes b New → state b (firstFree b) ≡ 0
@@ -68,18 +68,18 @@ module _ (b : Base) (z : SizedBase b) (g : Good b) where
   unfolding edit withStates withLinks withHolds freeAll oneMore oneLess freezeFirst
   edit-n New = refl
   edit-n (Set p k t) = refl
-  edit-n (Freeze p) = go (isFrozen b p)
+  edit-n (Freeze p seat) = go (isFrozen b p)
     where
       go : (x : Bool) → pick x (oneMore b p) (freezeFirst b p) .n ≡ b .n
       go true = refl
       go false = refl
-  edit-n (Acquire p) = refl
-  edit-n (Release p) = refl
+  edit-n (Acquire p seat) = refl
+  edit-n (Release p seat) = refl
   edit-n (Bin p) = refl
   edit-n (Look p) = refl
 
   pub edit-well : (c : Command) → Passes b c → Wells (edit b c)
-  unfolding edit refusals applies atLimit newBase setBase holdBase oneLess
+  unfolding edit tableRefusals applies atLimit newBase setBase holdBase oneLess
   edit-well New c = new-good b z g (firstFree b) (first-free b c .below) (first-free-state b c) .wells
   edit-well (Set p k t) c =
       set-well b z (g .wells) p k t h i (live-draft b p (g .wells p h) fp (not-by c State))
@@ -106,9 +106,9 @@ module _ (b : Base) (z : SizedBase b) (g : Good b) where
       target ne m =
           inr (live b t m (g .wells t m) (not-T (isFree b t) (λ f. T-not (not (eqb t none) & isFree b t)
           (not-or-right (isFree b p) (not (eqb t none) & isFree b t) (not-by c Free)) (and-both (not (eqb t none)) (isFree b t) ne f))))
-  edit-well (Freeze p) c = freeze-good p (below-of p (not-by c Number)) (not-by c Free) (not-by c Limit) .wells
-  edit-well (Acquire p) c = more-good p (below-of p (not-by c Number)) (live-frozen b p (g .wells p (below-of p (not-by c Number))) (not-by c Free) (not-by c State)) (not-by c Limit) .wells
-  edit-well (Release p) c =
+  edit-well (Freeze p seat) c = freeze-good p (below-of p (not-by c Number)) (not-by c Free) (not-by c Limit) .wells
+  edit-well (Acquire p seat) c = more-good p (below-of p (not-by c Number)) (live-frozen b p (g .wells p (below-of p (not-by c Number))) (not-by c Free) (not-by c State)) (not-by c Limit) .wells
+  edit-well (Release p seat) c =
       let h = below-of p (not-by c Number) in
       let f = live-frozen b p (g .wells p h) (not-by c Free) (not-by c State) in
       let fw = frozen-of b p (g .wells p h) f in
@@ -118,12 +118,12 @@ module _ (b : Base) (z : SizedBase b) (g : Good b) where
 
   -- Demand 2, over states, links and holds
   pub after-good : (c : Command) → Passes b c → Good (after b c)
-  unfolding after settles edit refusals applies atLimit newBase
+  unfolding after settles edit tableRefusals applies atLimit newBase
   after-good New c = new-good b z g (firstFree b) (first-free b c .below) (first-free-state b c)
   after-good (Set p k t) c = settle (edit b (Set p k t)) (edit-n (Set p k t)) (edit-well (Set p k t) c)
-  after-good (Freeze p) c = freeze-good p (below-of p (not-by c Number)) (not-by c Free) (not-by c Limit)
-  after-good (Acquire p) c = more-good p (below-of p (not-by c Number)) (live-frozen b p (g .wells p (below-of p (not-by c Number))) (not-by c Free) (not-by c State)) (not-by c Limit)
-  after-good (Release p) c = settle (edit b (Release p)) (edit-n (Release p)) (edit-well (Release p) c)
+  after-good (Freeze p seat) c = freeze-good p (below-of p (not-by c Number)) (not-by c Free) (not-by c Limit)
+  after-good (Acquire p seat) c = more-good p (below-of p (not-by c Number)) (live-frozen b p (g .wells p (below-of p (not-by c Number))) (not-by c Free) (not-by c State)) (not-by c Limit)
+  after-good (Release p seat) c = settle (edit b (Release p seat)) (edit-n (Release p seat)) (edit-well (Release p seat) c)
   after-good (Bin p) c = settle (edit b (Bin p)) (edit-n (Bin p)) (edit-well (Bin p) c)
   after-good (Look p) c = g
 
@@ -147,9 +147,9 @@ module _ (b : Base) (z : SizedBase b) where
   unfolding edit withStates withLinks oneMore oneLess
   edit-sized New = record { states = length-set (b .states) (firstFree b) 1 ∙ z .states; links = z .links; holds = z .holds; most = z .most }
   edit-sized (Set p k t) = record { states = z .states; links = length-set (b .links) (4 * p + k) t ∙ z .links; holds = z .holds; most = z .most }
-  edit-sized (Freeze p) = freeze-sized p (isFrozen b p)
-  edit-sized (Acquire p) = hold-sized p (holdsOf b p + 1)
-  edit-sized (Release p) = hold-sized p (holdsOf b p - 1)
+  edit-sized (Freeze p seat) = freeze-sized p (isFrozen b p)
+  edit-sized (Acquire p seat) = hold-sized p (holdsOf b p + 1)
+  edit-sized (Release p seat) = hold-sized p (holdsOf b p - 1)
   edit-sized (Bin p) = free-sized (eqb p)
   edit-sized (Look p) = z
 
@@ -173,28 +173,20 @@ pub finish-sized : (b : Base) → SizedBase b → Sized (finish b)
 unfolding finish
 finish-sized b z = record { base = z; leaders = length-table (leaderEntry b) (b .n); counts = length-table (countEntry b) (b .n) }
 
--- ---- Demand 2: each call leaves a sound store sound, and of the same sizes
+-- ---- Demand 2, over the tables: an accepted command leaves sound tables sound, and of the same sizes
 
-pub record Ok (s : Store) : Type 0 where
+pub record Ok (s : Tables) : Type 0 where
   pub sized : Sized s
   pub sound : Sound s
 
-pub next-ok : (s : Store) (c : Command) → Ok s → Passes (s .base) c → Ok (nextStore s c)
-unfolding nextStore
+pub next-ok : (s : Tables) (c : Command) → Ok s → Passes (s .base) c → Ok (nextTables s c)
+unfolding nextTables
 next-ok s c o p =
     let z = o .sized .base in
     record {
       sized = finish-sized (after (s .base) c) (after-sized (s .base) z c);
       sound = finish-sound (after (s .base) c) (after-good (s .base) z (sound→entries s (o .sound) .good) c p);
     }
-
-pub step-ok : (s : Store) (c : Command) → Ok s → Ok (stepTo s c)
-unfolding stepTo settled
-step-ok s c o = go (verdict (s .base) c) refl
-  where
-    go : (v : Verdict) → verdict (s .base) c ≡ v → Ok (settled v s c)
-    go accepted e = next-ok s c o (passes (s .base) c e)
-    go (refused r) e = o
 
 -- ---- the list: exactly the frozen pieces that no draft and no held piece reaches any more
 
@@ -218,8 +210,8 @@ module _ (b : Base) (z : SizedBase b) (g : Good b) where
   unfolding freedBy settles after
   freed↔ New c p = none-gone (edit b New) (after-good b z g New c) p
   freed↔ (Set q k t) c p = gone↔ (edit b (Set q k t)) p
-  freed↔ (Freeze q) c p = none-gone (edit b (Freeze q)) (after-good b z g (Freeze q) c) p
-  freed↔ (Acquire q) c p = none-gone (edit b (Acquire q)) (after-good b z g (Acquire q) c) p
-  freed↔ (Release q) c p = gone↔ (edit b (Release q)) p
+  freed↔ (Freeze q seat) c p = none-gone (edit b (Freeze q seat)) (after-good b z g (Freeze q seat) c) p
+  freed↔ (Acquire q seat) c p = none-gone (edit b (Acquire q seat)) (after-good b z g (Acquire q seat) c) p
+  freed↔ (Release q seat) c p = gone↔ (edit b (Release q seat)) p
   freed↔ (Bin q) c p = gone↔ (edit b (Bin q)) p
   freed↔ (Look q) c p = none-gone (edit b (Look q)) (after-good b z g (Look q) c) p

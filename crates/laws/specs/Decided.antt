@@ -18,14 +18,14 @@ new-decided a o o′ p q = decides p q
 pub set-decided : (p k t : ℕ) → Decided (does (Set p k t))
 set-decided p k t a o o′ x y = decides x y
 
-pub freeze-decided : (p : ℕ) → Decided (does (Freeze p))
-freeze-decided p a o o′ x y = decides x y
+pub freeze-decided : (p seat : ℕ) → Decided (does (Freeze p seat))
+freeze-decided p seat a o o′ x y = decides x y
 
-pub acquire-decided : (p : ℕ) → Decided (does (Acquire p))
-acquire-decided p a o o′ x y = decides x y
+pub acquire-decided : (p seat : ℕ) → Decided (does (Acquire p seat))
+acquire-decided p seat a o o′ x y = decides x y
 
-pub release-decided : (p : ℕ) → Decided (does (Release p))
-release-decided p a o o′ x y = decides x y
+pub release-decided : (p seat : ℕ) → Decided (does (Release p seat))
+release-decided p seat a o o′ x y = decides x y
 
 pub bin-decided : (p : ℕ) → Decided (does (Bin p))
 bin-decided p a o o′ x y = decides x y

@@ -13,7 +13,7 @@ use Rattle.rules.specs.Tests.{_or_, _&_, pick}
 use Rattle.rules.specs.Lists.{Among}
 use Rattle.rules.specs.Tables.{Base, state, isDraft, isFrozen, reaches}
 use Rattle.rules.specs.Words.{Draft, Live, SizedBase}
-use Rattle.rules.specs.Commands.{refusals, withStates, withLinks, withHolds, oneMore, oneLess, freeAll, gone, goneList, firstFree, freezeFirst, edit, settles, freedBy, after}
+use Rattle.rules.specs.Commands.{tableRefusals, withStates, withLinks, withHolds, oneMore, oneLess, freeAll, gone, goneList, firstFree, freezeFirst, edit, settles, freedBy, after}
 use Rattle.rules.specs.declared.Refusal.the-variants.{Number, Free, State}
 use Rattle.rules.specs.declared.Command.{Command}
 use Rattle.rules.specs.declared.Command.the-variants.{New, Set, Freeze, Acquire, Release, Bin, Look}
@@ -38,9 +38,9 @@ module _ (b : Base) (z : SizedBase b) (g : Good b) where
       go (no d) = inr (getD-set-other (b .states) (firstFree b) p 1 0 d)
 
   -- freeze makes drafts frozen
-  freeze-state : (q p : ℕ) → p < b .n → ((state (edit b (Freeze q)) p ≡ 2) × Draft b p) ⊎ (state (edit b (Freeze q)) p ≡ state b p)
+  freeze-state : (q seat p : ℕ) → p < b .n → ((state (edit b (Freeze q seat)) p ≡ 2) × Draft b p) ⊎ (state (edit b (Freeze q seat)) p ≡ state b p)
   unfolding edit
-  freeze-state q p h = go (isFrozen b q)
+  freeze-state q seat p h = go (isFrozen b q)
     where
       turns : Bool
       turns = isDraft b p & reaches b q p
@@ -61,9 +61,9 @@ module _ (b : Base) (z : SizedBase b) (g : Good b) where
   unfolding edit withLinks withHolds oneMore oneLess
   edit-free New c p h e = ⊎-elim (λ x. absurd (let y = e in omega arith)) (λ x. inl (sym x ∙ e)) (new-state p c)
   edit-free (Set q k t) c p h e = inl (unfold state in e)
-  edit-free (Freeze q) c p h e = ⊎-elim (λ x. absurd (let y = x .0 in omega arith)) (λ x. inl (sym x ∙ e)) (freeze-state q p h)
-  edit-free (Acquire q) c p h e = inl (unfold state in e)
-  edit-free (Release q) c p h e = inl (unfold state in e)
+  edit-free (Freeze q seat) c p h e = ⊎-elim (λ x. absurd (let y = x .0 in omega arith)) (λ x. inl (sym x ∙ e)) (freeze-state q seat p h)
+  edit-free (Acquire q seat) c p h e = inl (unfold state in e)
+  edit-free (Release q seat) c p h e = inl (unfold state in e)
   edit-free (Bin q) c p h e = ⊎-elim (λ t. inr (ap Bin (eqb→eq q p t))) (λ t. inl (sym (state-freeAll b (eqb q) p h ∙ pick-false (eqb q p) 0 (state b p) t) ∙ e)) (T-dec (eqb q p))
   edit-free (Look q) c p h e = inl e
 
@@ -72,9 +72,9 @@ module _ (b : Base) (z : SizedBase b) (g : Good b) where
   unfolding edit withLinks withHolds oneMore oneLess
   edit-live New c p h e = ⊎-elim (λ x. absurd (let y = e in omega arith)) (λ x. inr (record { below = h; is = sym x ∙ e })) (new-state p c)
   edit-live (Set q k t) c p h e = inr (record { below = h; is = unfold state in e })
-  edit-live (Freeze q) c p h e = ⊎-elim (λ x. inl (x .1)) (λ x. inr (record { below = h; is = sym x ∙ e })) (freeze-state q p h)
-  edit-live (Acquire q) c p h e = inr (record { below = h; is = unfold state in e })
-  edit-live (Release q) c p h e = inr (record { below = h; is = unfold state in e })
+  edit-live (Freeze q seat) c p h e = ⊎-elim (λ x. inl (x .1)) (λ x. inr (record { below = h; is = sym x ∙ e })) (freeze-state q seat p h)
+  edit-live (Acquire q seat) c p h e = inr (record { below = h; is = unfold state in e })
+  edit-live (Release q seat) c p h e = inr (record { below = h; is = unfold state in e })
   edit-live (Bin q) c p h e = ⊎-elim
       (λ t. absurd (let x = state-freeAll b (eqb q) p h ∙ pick-true (eqb q p) 0 (state b p) t in omega arith))
       (λ t. inr (record { below = h; is = sym (state-freeAll b (eqb q) p h ∙ pick-false (eqb q p) 0 (state b p) t) ∙ e })) (T-dec (eqb q p))
@@ -118,7 +118,7 @@ module _ (b : Base) (z : SizedBase b) (g : Good b) where
 
   -- so does a binned draft
   binned : (p : ℕ) → Passes b (Bin p) → Live b p × (state (after b (Bin p)) p ≡ 0)
-  unfolding after settles edit refusals applies
+  unfolding after settles edit tableRefusals applies
   binned p c =
       let h = below-of b z g p (not-by c Number) in
       let e : Base = freeAll b (eqb p) in

@@ -12,7 +12,7 @@ use Rattle.rules.specs.Tests.{_or_, pick, onlyIf}
 use Rattle.rules.specs.Reach.{here}
 use Rattle.rules.specs.Tables.{Base, isFree, isFrozen, holdsOf, isKept}
 use Rattle.rules.specs.Words.{SizedBase}
-use Rattle.rules.specs.Commands.{notHeld, refusals, withStates, withLinks, withHolds, oneMore, oneLess, freeAll, gone, freezeFirst, edit, settles, after}
+use Rattle.rules.specs.Commands.{notHeld, tableRefusals, withStates, withLinks, withHolds, oneMore, oneLess, freeAll, gone, freezeFirst, edit, settles, after}
 use Rattle.rules.specs.History.{addsTo, takesFrom}
 use Rattle.rules.specs.declared.Refusal.the-variants.{Number, Free, State, NotHeld}
 use Rattle.rules.specs.declared.Command.{Command}
@@ -58,10 +58,10 @@ module _ (b : Base) (z : SizedBase b) (g : Good b) where
 
   -- the command's own change
   edit-holds : (c : Command) → Passes b c → (p : ℕ) → p < b .n → holdsOf (edit b c) p + onlyIf (takesFrom p c) 1 ≡ holdsOf b p + onlyIf (addsTo p c) 1
-  unfolding edit addsTo takesFrom withStates withLinks withHolds oneMore oneLess freezeFirst refusals applies notHeld
+  unfolding edit addsTo takesFrom withStates withLinks withHolds oneMore oneLess freezeFirst tableRefusals applies notHeld
   edit-holds New c p h = unfold holdsOf in refl
   edit-holds (Set q k t) c p h = unfold holdsOf in refl
-  edit-holds (Freeze q) c p h = ⊎-elim was draft (T-dec (isFrozen b q))
+  edit-holds (Freeze q seat) c p h = ⊎-elim was draft (T-dec (isFrozen b q))
     where
       m : q < b .n
       m = below-of b z g q (not-by c Number)
@@ -79,10 +79,10 @@ module _ (b : Base) (z : SizedBase b) (g : Good b) where
           let f : 1 ≡ holdsOf b q + 1 = omega arith in
           let x = more q p (holdsOf (freezeFirst b q) p) 1 (unfold holdsOf in (set-holds q p 1 m)) f in
           omega arith
-  edit-holds (Acquire q) c p h =
+  edit-holds (Acquire q seat) c p h =
       let x = more q p (holdsOf (oneMore b q) p) (holdsOf b q + 1) (unfold holdsOf in (set-holds q p (holdsOf b q + 1) (below-of b z g q (not-by c Number)))) refl in
       omega arith
-  edit-holds (Release q) c p h =
+  edit-holds (Release q seat) c p h =
       let y : holdsOf b q ≢ 0 = λ e. T-not (eqb (holdsOf b q) 0) (not-by c NotHeld) (eqb-of e) in
       let f : holdsOf b q - 1 + 1 ≡ holdsOf b q = omega arith in
       let x = less q p (holdsOf (oneLess b q) p) (holdsOf b q - 1) (unfold holdsOf in (set-holds q p (holdsOf b q - 1) (below-of b z g q (not-by c Number)))) f in

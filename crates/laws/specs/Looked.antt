@@ -7,7 +7,7 @@ use lib.ListN.{List·getD-eq-default}
 use Rattle.rules.specs.Tests.{_&_, onlyIf}
 use Rattle.rules.specs.Limits.{none}
 use Rattle.rules.specs.Below.{sum}
-use Rattle.rules.specs.Tables.{Base, Store, isLive, linkAt, holdsOf, inGroup, leaderOf, places, countOf}
+use Rattle.rules.specs.Tables.{Base, Tables, isLive, linkAt, holdsOf, inGroup, leaderOf, places, countOf}
 use Rattle.rules.specs.Words.{Draft, Frozen, Group, Leader, Sized, Sound, leaderAt, countAt}
 use Rattle.rules.specs.Calls.{seenAt}
 use Rattle.rules.specs.declared.Seen.the-variants.{Piece}
@@ -31,7 +31,7 @@ module _ (b : Base) (p q : ℕ) (f : Frozen b p) (g : Group b p q) where
       ap (λ (x : Bool). onlyIf (isLive b r & not x) (sum (λ k. onlyIf (inGroup b p (linkAt b r k)) 1) 4)) (same-members r)
       ∙ ap (λ (x : ℕ). onlyIf (isLive b r & not (inGroup b q r)) x) (sum-cong _ _ 4 (λ k _. ap (λ (x : Bool). onlyIf x 1) (same-members (linkAt b r k))))))
 
-module _ (s : Store) (z : Sized s) (sd : Sound s) (p : ℕ) where
+module _ (s : Tables) (z : Sized s) (sd : Sound s) (p : ℕ) where
   entries : Entries s
   entries = sound→entries s sd
 

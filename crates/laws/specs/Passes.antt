@@ -1,4 +1,4 @@
--- An accepted command passes each row of its refusals, and what the rows say of the piece that it names.
+-- An accepted command passes each row of its refusals by the tables, and what the rows say of the piece that it names.
 use mathlib.Core.Path.{_≡_}
 use mathlib.Core.Logic.{_⊎_, inl, inr}
 use mathlib.Core.Bool.{Bool, true, false, not}
@@ -13,7 +13,7 @@ use Rattle.laws.specs.Below.{T-dec, →every, some→, →some}
 use Rattle.rules.specs.Tables.{Base, state, isFree, isDraft, isFrozen}
 use Rattle.rules.specs.Words.{Live, FreeWell, DraftWell, FrozenWell, Well, wfree, wdraft, wfrozen}
 use Rattle.laws.specs.Words.{eqb-of, →isDraft, →isFrozen}
-use Rattle.rules.specs.Commands.{accepted, firstOf, refusals, verdict}
+use Rattle.rules.specs.Commands.{Verdict, accepted, firstOf, tableRefusals}
 use Rattle.rules.specs.Calls.{numberOf}
 use Rattle.rules.specs.declared.Refusal.{Refusal}
 use Rattle.rules.specs.declared.Command.{Command}
@@ -51,16 +51,20 @@ none-applies (row ∷ rows) p r = go (eqb (numberOf r) (numberOf (row .1))) (row
 
 -- ---- an accepted command
 
--- no refusal applies to the command
+-- no refusal by the tables applies to the command
 pub record Passes (b : Base) (c : Command) : Type 0 where
-  pub rows : Passed (length (refusals b c)) (refusals b c)
+  pub rows : Passed (length (tableRefusals b c)) (tableRefusals b c)
 
-pub not-by : {b : Base} {c : Command} → Passes b c → (r : Refusal) → T (not (applies r (refusals b c)))
-not-by {b} {c} p r = none-applies (refusals b c) (p .rows) r
+pub not-by : {b : Base} {c : Command} → Passes b c → (r : Refusal) → T (not (applies r (tableRefusals b c)))
+not-by {b} {c} p r = none-applies (tableRefusals b c) (p .rows) r
 
-pub passes : (b : Base) (c : Command) → verdict b c ≡ accepted → Passes b c
-unfolding verdict
-passes b c e = record { rows = passed-all (refusals b c) e }
+-- the verdict by the tables alone
+unfoldable pub tableVerdict : Base → Command → Verdict
+tableVerdict b c = firstOf (tableRefusals b c)
+
+pub passes : (b : Base) (c : Command) → tableVerdict b c ≡ accepted → Passes b c
+unfolding tableVerdict
+passes b c e = record { rows = passed-all (tableRefusals b c) e }
 
 -- ---- small helpers on tests
 

@@ -11,7 +11,7 @@ use Rattle.laws.specs.Tests.{or-left, or-right, or-cases, and-both, and-
 use Rattle.rules.specs.Limits.{none}
 use Rattle.rules.specs.Below.{every, table}
 use Rattle.laws.specs.Below.{T-dec, pick-true, pick-false, every→, →every, getD-table, length-table}
-use Rattle.rules.specs.Tables.{storeOn, Base, Store, state, isFree, isDraft, isFrozen, isLive, linkAt, holdsOf, leaderOf, countOf}
+use Rattle.rules.specs.Tables.{tablesOn, Base, Tables, state, isFree, isDraft, isFrozen, isLive, linkAt, holdsOf, leaderOf, countOf}
 use Rattle.rules.specs.Tables.{isKept, leaderEntry, countEntry, finish, allFour, wellFree, wellDraft, wellFrozen, well, soundAt, isSound}
 use Rattle.rules.specs.Words.{Frozen, Live, Leader, Kept, FreeWell, DraftWell, FrozenWell, Well, wfree, wdraft, wfrozen}
 use Rattle.rules.specs.Words.{leaderAt, countAt, Piece, free, draft, frozen, Sound, Sized}
@@ -150,7 +150,7 @@ module _ (b : Base) where
 
 -- ---- a sound store is a good base with the leaders and counts that it gives
 
-module _ (s : Store) where
+module _ (s : Tables) where
   -- the tables as sets of facts
   pub record Entries : Type 0 where
     pub good : Good (s .base)
@@ -228,7 +228,7 @@ module _ (s : Store) where
   -- sound tables are what their states, links and holds give
   pub determined : Sized s → Sound s → s ≡ finish (s .base)
   unfolding finish
-  determined z sd = λ i. storeOn (s .base) (l i) (c i)
+  determined z sd = λ i. tablesOn (s .base) (l i) (c i)
     where
       e : Entries
       e = sound→entries sd

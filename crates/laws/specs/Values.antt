@@ -5,7 +5,7 @@ use Prim.Native.Nat.{ℕ}
 use lib.ListN.{length, getD}
 use Rattle.rules.specs.Tests.{pick}
 use Rattle.rules.specs.Limits.{none}
-use Rattle.rules.specs.Tables.{Store, state, holdsOf, isSound}
+use Rattle.rules.specs.Tables.{state, holdsOf, isSoundStore}
 use Rattle.rules.specs.Commands.{isLook, pieceOf, Verdict, accepted, refused, freedBy, valueOf}
 use Rattle.rules.specs.Calls.{Call, start, does, check, Areas, numberOf, Values, SeenValues, CheckedValues, Reply, answered, saw, checked, Numbers, values, seenValues}
 use Rattle.rules.specs.Calls.{checkedValues, numbersOf, Outcome, refusedBy, refusedCall, seenAt, doneBy, acceptedBy, judge, cleared, acceptedCall, ended, outcomeOf, Promise}
@@ -33,22 +33,22 @@ abbrev pub numbersBy : Areas → Call → Verdict → Numbers
 numbersBy a start accepted = three 0 none 0
 numbersBy a start (refused r) = three (numberOf r) none 0
 numbersBy a (does c) accepted =
-    let s = a .store in
+    let s = a .store .tables in
     let l = getD (s .leaders) (pieceOf c) 0 in
     pick (isLook c) (looked 0 (state (s .base) (pieceOf c)) l (getD (s .counts) l 0) (holdsOf (s .base) (pieceOf c)))
     (three 0 (valueOf (s .base) c) (length (freedBy (s .base) c)))
 numbersBy a (does c) (refused r) = pick (isLook c) (looked (numberOf r) 0 none 0 0) (three (numberOf r) none 0)
-numbersBy a check accepted = told 0 (pick (isSound (a .store)) 1 0)
+numbersBy a check accepted = told 0 (pick (isSoundStore (a .store)) 1 0)
 numbersBy a check (refused r) = told (numberOf r) 0
 
 -- the numbers of an outcome that keeps the promise of its call
 pub promised-numbers : {c : Call} {a : Areas} {o : Outcome} → Promise c a o → numbersOf (o .reply) ≡ numbersBy a c (judge a c)
 promised-numbers {c} {a} p = ap (λ (o : Outcome). numbersOf (o .reply)) (p .exact) ∙ outcome-numbers a c
   where
-    done : (a : Areas) (c : Command) (b : Bool) → numbersOf (pick b (saw (seenAt (a .store) (pieceOf c))) (answered (doneBy (a .store .base) c)))
-        ≡ pick b (looked 0 (state (a .store .base) (pieceOf c)) (getD (a .store .leaders) (pieceOf c) 0)
-        (getD (a .store .counts) (getD (a .store .leaders) (pieceOf c) 0) 0) (holdsOf (a .store .base) (pieceOf c)))
-        (three 0 (valueOf (a .store .base) c) (length (freedBy (a .store .base) c)))
+    done : (a : Areas) (c : Command) (b : Bool) → numbersOf (pick b (saw (seenAt (a .store .tables) (pieceOf c))) (answered (doneBy (a .store .tables .base) c)))
+        ≡ pick b (looked 0 (state (a .store .tables .base) (pieceOf c)) (getD (a .store .tables .leaders) (pieceOf c) 0)
+        (getD (a .store .tables .counts) (getD (a .store .tables .leaders) (pieceOf c) 0) 0) (holdsOf (a .store .tables .base) (pieceOf c)))
+        (three 0 (valueOf (a .store .tables .base) c) (length (freedBy (a .store .tables .base) c)))
     done a c true = unfold seenAt in refl
     done a c false = unfold doneBy in refl
 
@@ -65,7 +65,7 @@ promised-numbers {c} {a} p = ap (λ (o : Outcome). numbersOf (o .reply)) (p .exa
     by a start (refused r) = unfold ended refusedCall in refl
     by a (does c) accepted = unfold ended acceptedCall acceptedBy cleared in (done a c (isLook c))
     by a (does c) (refused r) = unfold ended refusedCall refusedBy in (no r (isLook c))
-    by a check accepted = unfold ended acceptedCall cleared in (yes (isSound (a .store)))
+    by a check accepted = unfold ended acceptedCall cleared in (yes (isSoundStore (a .store)))
     by a check (refused r) = unfold ended refusedCall in refl
 
     outcome-numbers : (a : Areas) (c : Call) → numbersOf (outcomeOf a c .reply) ≡ numbersBy a c (judge a c)

@@ -1,54 +1,145 @@
--- The verdict on a command: the refusal of the first row that applies, and accepted where none does; and what the command then did.
-use mathlib.Core.Path.{_≡_, refl, sym, ap, _∙_}
+-- The verdict on a command of the store: the seat's, then the tables', then the register's; and what the command then did.
+use mathlib.Core.Path.{_≡_, refl, sym, ap, _∙_, subst}
 use mathlib.Core.Bool.{Bool, true, false, not}
 use mathlib.Core.List.{List, [], _∷_, _++_}
-use Prim.Native.Nat.{ℕ, zero, suc}
+use Prim.Native.Nat.{ℕ}
+use native.Mathlib.Omega.{arith}
 use lib.Dec.{T}
 use lib.ListN.{length, drop}
 use Rattle.rules.specs.Tests.{pick}
-use Rattle.rules.specs.Tables.{Base, Store}
-use Rattle.rules.specs.Commands.{Verdict, accepted, refused, firstOf, refusals, verdict, edit, settles, freedBy, goneList, nextStore}
+use Rattle.rules.specs.Tables.{Base, Tables, Store, storeOn}
+use Rattle.rules.specs.Commands.{namesSeat, Verdict, accepted, refused, firstOf, seatRefusals, tableRefusals, registerRefusals, refusals, verdict}
+use Rattle.rules.specs.Commands.{edit, settles, freedBy, goneList, noted, nextTables, nextStore}
 use Rattle.rules.specs.Calls.{Reply, Effect, effect, effected, effectOf, refusedBy, acceptedBy, listing, Did}
 use Rattle.rules.specs.declared.Refusal.{Refusal}
-use Rattle.rules.specs.declared.Refusal.the-variants.{Number, Free, State, Limit, NotHeld, Linked, Full}
+use Rattle.rules.specs.declared.Refusal.the-variants.{Seat, Number, Free, State, Limit, Register, NotHeld, NotYours, Linked, Full}
 use Rattle.rules.specs.declared.Command.{Command}
 use Rattle.rules.specs.declared.Command.the-variants.{New, Set, Freeze, Acquire, Release, Bin, Look}
-use Rattle.laws.specs.Passes.{applies, Passed, Passes}
+use Rattle.laws.specs.Passes.{applies, tableVerdict}
+use Rattle.laws.specs.Rows.{andThen, first-append, then-accepted, both-accepted}
+use Rattle.laws.specs.ByTables.{TablesEffect, tablesEffect, tablesEffected, DidTables}
 
--- row i is for r, and applies
-abbrev pub Applies : ℕ → List (Bool × Refusal) → Refusal → Type 0
-Applies i [] r = ⊥
-Applies zero (row ∷ rows) r = T (row .0) × (row .1 ≡ r)
-Applies (suc i) (row ∷ rows) r = Applies i rows r
+-- ---- the three verdicts
 
-miss : (t : Bool) (r : Refusal) (rows : List (Bool × Refusal)) (v : Verdict) → T (not t) → firstOf rows ≡ v → firstOf ((t, r) ∷ rows) ≡ v
-unfolding firstOf
-miss true r rows v h e = absurd h
-miss false r rows v h e = e
+-- by the seat alone
+unfoldable pub seatVerdict : Command → Verdict
+seatVerdict c = firstOf (seatRefusals c)
 
--- the first that applies is given
-pub first-at : (i : ℕ) (rows : List (Bool × Refusal)) (r : Refusal) → Passed i rows → Applies i rows r → firstOf rows ≡ refused r
-first-at i [] r c a = absurd a
-first-at zero (row ∷ rows) r c a = hit (row .0) (a .0) ∙ ap refused (a .1)
+-- by the register alone
+unfoldable pub registerVerdict : List ℕ → Command → Verdict
+registerVerdict l c = firstOf (registerRefusals l c)
+
+-- the first that refuses is given
+pub verdict-is : (s : Store) (c : Command)
+    → verdict s c ≡ andThen (seatVerdict c) (andThen (tableVerdict (s .tables .base) c) (registerVerdict (s .register) c))
+unfolding verdict refusals seatVerdict tableVerdict registerVerdict
+verdict-is s c =
+    first-append (seatRefusals c) (tableRefusals (s .tables .base) c ++ registerRefusals (s .register) c)
+    ∙ ap (andThen (firstOf (seatRefusals c))) (first-append (tableRefusals (s .tables .base) c) (registerRefusals (s .register) c))
+
+-- an accepted command is accepted by all three
+pub record AllAccept (s : Store) (c : Command) : Type 0 where
+  pub seat : seatVerdict c ≡ accepted
+  pub tables : tableVerdict (s .tables .base) c ≡ accepted
+  pub register : registerVerdict (s .register) c ≡ accepted
+
+pub all-accept : {s : Store} {c : Command} → verdict s c ≡ accepted → AllAccept s c
+all-accept {s} {c} e =
+    let x = both-accepted (seatVerdict c) _ (sym (verdict-is s c) ∙ e) in
+    let y = both-accepted (tableVerdict (s .tables .base) c) (registerVerdict (s .register) c) (x .1) in
+    record { seat = x .0; tables = y .0; register = y .1 }
+
+-- ---- a command that names no seat
+
+-- is judged by the tables alone
+pub bare-verdict : (s : Store) (c : Command) → namesSeat c ≡ false → verdict s c ≡ tableVerdict (s .tables .base) c
+bare-verdict s c e = verdict-is s c ∙ go c e
   where
-    hit : (t : Bool) → T t → firstOf ((t, row .1) ∷ rows) ≡ refused (row .1)
-    hit true h = unfold firstOf in refl
-    hit false h = absurd h
-first-at (suc i) (row ∷ rows) r c a = miss (row .0) (row .1) rows (refused r) (c .0) (first-at i rows r (c .1) a)
+    after : (c : Command) → seatVerdict c ≡ accepted → registerVerdict (s .register) c ≡ accepted
+        → andThen (seatVerdict c) (andThen (tableVerdict (s .tables .base) c) (registerVerdict (s .register) c)) ≡ tableVerdict (s .tables .base) c
+    after c a r =
+        (λ i. andThen (a i) (andThen (tableVerdict (s .tables .base) c) (r i)))
+        ∙ (unfold andThen in (then-accepted (tableVerdict (s .tables .base) c)))
 
--- and none is given otherwise
-pub first-none : (rows : List (Bool × Refusal)) → Passed (length rows) rows → firstOf rows ≡ accepted
-first-none [] c = unfold firstOf in refl
-first-none (row ∷ rows) c = miss (row .0) (row .1) rows accepted (c .0) (first-none rows (c .1))
+    go : (c : Command) → namesSeat c ≡ false
+        → andThen (seatVerdict c) (andThen (tableVerdict (s .tables .base) c) (registerVerdict (s .register) c)) ≡ tableVerdict (s .tables .base) c
+    go New e = after New (unfold seatVerdict seatRefusals firstOf in refl) (unfold registerVerdict registerRefusals firstOf in refl)
+    go (Set p k t) e = after (Set p k t) (unfold seatVerdict seatRefusals firstOf in refl) (unfold registerVerdict registerRefusals firstOf in refl)
+    go (Freeze p i) e = absurd (let z : _≡_ {A = ℕ} 0 1 = cc e in omega arith)
+    go (Acquire p i) e = absurd (let z : _≡_ {A = ℕ} 0 1 = cc e in omega arith)
+    go (Release p i) e = absurd (let z : _≡_ {A = ℕ} 0 1 = cc e in omega arith)
+    go (Bin p) e = after (Bin p) (unfold seatVerdict seatRefusals firstOf in refl) (unfold registerVerdict registerRefusals firstOf in refl)
+    go (Look p) e = after (Look p) (unfold seatVerdict seatRefusals firstOf in refl) (unfold registerVerdict registerRefusals firstOf in refl)
 
--- a command that no row refuses is accepted, and one that a row is the first to refuse is refused by it
-pub accepts : {b : Base} {c : Command} → Passes b c → verdict b c ≡ accepted
-unfolding verdict
-accepts {b} {c} p = first-none (refusals b c) (p .rows)
+-- and leaves the register as it is
+pub bare-noted : (l : List ℕ) (c : Command) → namesSeat c ≡ false → noted l c ≡ l
+unfolding noted
+bare-noted l New e = refl
+bare-noted l (Set p k t) e = refl
+bare-noted l (Freeze p i) e = absurd (let z : _≡_ {A = ℕ} 0 1 = cc e in omega arith)
+bare-noted l (Acquire p i) e = absurd (let z : _≡_ {A = ℕ} 0 1 = cc e in omega arith)
+bare-noted l (Release p i) e = absurd (let z : _≡_ {A = ℕ} 0 1 = cc e in omega arith)
+bare-noted l (Bin p) e = refl
+bare-noted l (Look p) e = refl
 
-pub refuses : (i : ℕ) (b : Base) (c : Command) (r : Refusal) → Passed i (refusals b c) → Applies i (refusals b c) r → verdict b c ≡ refused r
-unfolding verdict
-refuses i b c r p a = first-at i (refusals b c) r p a
+-- so what it did to the tables is what it did to the store
+pub bare-did : {c : Command} {t t′ : Tables} {l l′ register : List ℕ} {a : Reply} → namesSeat c ≡ false → DidTables c t l (tablesEffect a t′ l′)
+    → Did c (storeOn t register) l (effect a (storeOn t′ register) l′)
+unfolding effectOf
+bare-did {c} {t} {t′} {l} {l′} {register} {a} e d = record {
+  exact =
+      ap (λ (x : TablesEffect). effect (x .reply) (storeOn (x .tables) register) (x .list)) (d .exact)
+      ∙ go (tableVerdict (t .base) c)
+      ∙ ap (effected (storeOn t register) l c) (sym (bare-verdict (storeOn t register) c e));
+}
+  where
+    go : (v : Verdict) → effect (tablesEffected t l c v .reply) (storeOn (tablesEffected t l c v .tables) register) (tablesEffected t l c v .list)
+        ≡ effected (storeOn t register) l c v
+    go accepted = unfold tablesEffected effected nextStore in
+        (ap (λ (x : List ℕ). effect (acceptedBy t c) (storeOn (nextTables t c) x) (listing (freedBy (t .base) c) l)) (sym (bare-noted register c e)))
+    go (refused r) = unfold tablesEffected effected in refl
+
+-- ---- a command that names a seat
+
+pub did-refused-by : (c : Command) (s : Store) (l : List ℕ) (r : Refusal) → verdict s c ≡ refused r → Did c s l (effect (refusedBy r c) s l)
+unfolding effectOf effected
+did-refused-by c s l r e = record { exact = ap (effected s l c) (sym e) }
+
+module _ {c : Command} {t : Tables} {l register : List ℕ} where
+  -- it is refused by the seat
+  pub seat-refused : {r : Refusal} → seatVerdict c ≡ refused r → Did c (storeOn t register) l (effect (refusedBy r c) (storeOn t register) l)
+  seat-refused {r} e =
+      did-refused-by c (storeOn t register) l r
+      (verdict-is (storeOn t register) c
+      ∙ ap (λ (v : Verdict). andThen v (andThen (tableVerdict (t .base) c) (registerVerdict register c))) e ∙ (unfold andThen in refl))
+
+  module _ (seat : seatVerdict c ≡ accepted) where
+    -- by the tables
+    pub tables-refused : {r : Refusal} → tableVerdict (t .base) c ≡ refused r → Did c (storeOn t register) l (effect (refusedBy r c) (storeOn t register) l)
+    tables-refused {r} e =
+        did-refused-by c (storeOn t register) l r
+        (verdict-is (storeOn t register) c ∙ (λ i. andThen (seat i) (andThen (e i) (registerVerdict register c))) ∙ (unfold andThen in refl))
+
+    module _ (tables : tableVerdict (t .base) c ≡ accepted) where
+      -- by the register
+      pub register-refused : {r : Refusal} → registerVerdict register c ≡ refused r → Did c (storeOn t register) l (effect (refusedBy r c) (storeOn t register) l)
+      register-refused {r} e =
+          did-refused-by c (storeOn t register) l r
+          (verdict-is (storeOn t register) c ∙ (λ i. andThen (seat i) (andThen (tables i) (e i))) ∙ (unfold andThen in refl))
+
+      -- or by none of them
+      pub all-did : registerVerdict register c ≡ accepted
+          → Did c (storeOn t register) l (effect (acceptedBy t c) (storeOn (nextTables t c) (noted register c)) (listing (freedBy (t .base) c) l))
+      unfolding effectOf
+      all-did e = record {
+        exact =
+            done
+            ∙ ap (effected (storeOn t register) l c)
+            (sym (verdict-is (storeOn t register) c ∙ (λ i. andThen (seat i) (andThen (tables i) (e i))) ∙ (unfold andThen in refl)));
+      }
+        where
+          done : effect (acceptedBy t c) (storeOn (nextTables t c) (noted register c)) (listing (freedBy (t .base) c) l) ≡ effected (storeOn t register) l c accepted
+          done = unfold effected nextStore in refl
 
 -- ---- the table's order
 
@@ -59,40 +150,33 @@ inOrder (r ∷ rs) rows = (applies r rows, r) ∷ inOrder rs rows
 
 -- the refusals after UNSOUND, in the table's order
 abbrev pub table : List Refusal
-table = Number ∷ Free ∷ State ∷ Limit ∷ NotHeld ∷ Linked ∷ Full ∷ []
+table = Seat ∷ Number ∷ Free ∷ State ∷ Limit ∷ Register ∷ NotHeld ∷ NotYours ∷ Linked ∷ Full ∷ []
 
 -- the refusals of every command follow the table's order: going down the table gives the same verdict
-pub by-table : (b : Base) (c : Command) → verdict b c ≡ firstOf (inOrder table (refusals b c))
-unfolding verdict firstOf refusals inOrder applies
-by-table b New = refl
-by-table b (Set p k t) = refl
-by-table b (Freeze p) = refl
-by-table b (Acquire p) = refl
-by-table b (Release p) = refl
-by-table b (Bin p) = refl
-by-table b (Look p) = refl
-
--- ---- what a command did
-
-pub did-refused : (c : Command) (s : Store) (l : List ℕ) (r : Refusal) → verdict (s .base) c ≡ refused r → Did c s l (effect (refusedBy r c) s l)
-unfolding effectOf effected
-did-refused c s l r e = record { exact = ap (effected s l c) (sym e) }
-
-pub did-accepted : (c : Command) (s : Store) (l : List ℕ) → verdict (s .base) c ≡ accepted → Did c s l (effect (acceptedBy s c) (nextStore s c) (listing (freedBy (s .base) c) l))
-unfolding effectOf effected
-did-accepted c s l e = record { exact = ap (effected s l c) (sym e) }
+pub by-table : (s : Store) (c : Command) → verdict s c ≡ firstOf (inOrder table (refusals s c))
+unfolding verdict firstOf refusals seatRefusals tableRefusals registerRefusals inOrder applies
+by-table s New = refl
+by-table s (Set p k t) = refl
+by-table s (Freeze p i) = refl
+by-table s (Acquire p i) = refl
+by-table s (Release p i) = refl
+by-table s (Bin p) = refl
+by-table s (Look p) = refl
 
 -- a command that settles nothing does the same whatever list is lent
-pub any-list : (c : Command) (s : Store) (r : Reply) (s′ : Store) (l : List ℕ) → settles c ≡ false → Did c s [] (effect r s′ []) → Did c s l (effect r s′ l)
+pub any-list : {c : Command} {s s′ : Store} {l : List ℕ} {r : Reply} → settles c ≡ false → Did c s [] (effect r s′ []) → Did c s l (effect r s′ l)
 unfolding effectOf
-any-list c s r s′ l off d = record { exact = ap (λ (e : Effect). effect (e .reply) (e .store) l) (d .exact) ∙ go (verdict (s .base) c) }
+any-list {c} {s} {s′} {l} {r} off d = record { exact = ap (λ (e : Effect). effect (e .reply) (e .store) l) (d .exact) ∙ go (verdict s c) }
   where
-    nothing : freedBy (s .base) c ≡ []
-    nothing = unfold freedBy in (ap (λ (t : Bool). pick t (goneList (edit (s .base) c)) []) off)
+    b : Base
+    b = s .tables .base
 
-    listed : l ≡ listing (freedBy (s .base) c) l
+    nothing : freedBy b c ≡ []
+    nothing = unfold freedBy in (ap (λ (x : Bool). pick x (goneList (edit b c)) []) off)
+
+    listed : l ≡ listing (freedBy b c) l
     listed = unfold listing in (ap (λ (f : List ℕ). f ++ drop (length f) l) (sym nothing))
 
     go : (v : Verdict) → effect (effected s [] c v .reply) (effected s [] c v .store) l ≡ effected s l c v
-    go accepted = unfold effected in (ap (effect (acceptedBy s c) (nextStore s c)) listed)
+    go accepted = unfold effected in (ap (effect (acceptedBy (s .tables) c) (nextStore s c)) listed)
     go (refused r) = unfold effected in refl

@@ -1,32 +1,16 @@
 -- The store of a lent trace starts empty at capacity 1,024, and LONG is checked first.
 use mathlib.Core.Path.{_≡_, sym, _∙_}
 use mathlib.Core.List.{List, []}
-use Prim.Native.Nat.{ℕ, _+_, _*_, _^_, _≤_, _<_, zero-le}
-use native.Mathlib.Omega.{arith}
+use Prim.Native.Nat.{ℕ, _+_, _^_, _≤_, _<_}
 use lib.Dec.{leb, le→leb}
-use lib.ListN.{length, replicate, length-replicate, getD-replicate}
+use lib.ListN.{length}
 use Rattle.rules.specs.Limits.{most, mostTrace}
 use Rattle.rules.specs.Tables.{empty}
 use Rattle.rules.specs.Calls.{numberOf}
 use Rattle.rules.specs.Trace.{linesFrom, linesOf, outputOf, traceAt, trace, inRoom, lentTrace}
 use Rattle.rules.specs.declared.Refusal.the-variants.{Long}
 use Rattle.laws.specs.Below.{pick-true, pick-false}
-use Rattle.laws.specs.Calls.{empty-ok}
-use Rattle.reader.specs.Answered.{Stands}
 use Rattle.lending.specs.Lent.{given, not-within}
-
--- over the capacity, so that nothing computes
-stands : (n : ℕ) → 1 ≤ n → n ≤ most → Stands n (empty n) (replicate n 0) (replicate (8 * n) 0) 0
-stands n a b = record {
-  ready = record { least = unfold empty in a; sized = empty-ok n b .sized; sound = empty-ok n b .sound };
-  room = omega (arith, length-replicate {A = ℕ} n 0);
-  clear = record { size = omega (arith, length-replicate {A = ℕ} (8 * n) 0); zeros = λ i h. getD-replicate {A = ℕ} (8 * n) i 0 0 h };
-  small = zero-le;
-  none = λ q k. absurd (omega arith);
-}
-
-pub begun : Stands most (empty most) (replicate most 0) (replicate (8 * most) 0) 0
-begun = stands most (omega arith) (omega arith)
 
 pub lent-long : (text room : List ℕ) → mostTrace < length text → given (2 ^ 63 + numberOf Long) room ≡ lentTrace text room
 unfolding lentTrace

@@ -26,7 +26,7 @@ pub record Ends (line last : List ℕ) (r : ℕ) : Type 0 where
 abbrev pub Fills : ℕ → Store → List ℕ → List ℕ → Store → List ℕ → List ℕ → List ℕ → Place → Type 0
 Fills n s₀ text room₀ s l w room Full = length room₀ < length (outputOf s₀ (linesFrom [] text))
 Fills n s₀ text room₀ s l w room (Written size low) =
-    (size ≤ length room) × Stands n s l w low × (outputOf s₀ (linesFrom [] text) ≡ take size room ++ endLine s)
+    (size ≤ length room) × Stands n s l w low × (outputOf s₀ (linesFrom [] text) ≡ take size room ++ endLine (s .tables))
 
 pub record Filled (n : ℕ) (s₀ : Store) (text room₀ : List ℕ) (s : Store) (l w room : List ℕ) (r : Place) : Type 0 where
   pub is : Fills n s₀ text room₀ s l w room r
@@ -128,5 +128,5 @@ module _ {n : ℕ} {s₀ : Store} {text room : List ℕ} {at : ℕ} (w : Whole t
           h .place,
           st,
           whole ∙ ap (λ (t : List ℕ). take size room₁ ++ t) (says-over rest (cut-unended (leftOf text at) left-unended) (h .says))
-              ∙ sym (append-assoc (take size room₁) (h .said) (endLine s)) ∙ ap (λ (t : List ℕ). t ++ endLine s) (sym (h .is)),
+              ∙ sym (append-assoc (take size room₁) (h .said) (endLine (s .tables))) ∙ ap (λ (t : List ℕ). t ++ endLine (s .tables)) (sym (h .is)),
         )

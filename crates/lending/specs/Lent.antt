@@ -9,7 +9,7 @@ use lib.ListN.{length, take, replicate, length-append}
 use lib.Seq.{length-take-le, paste, take-paste, length-paste}
 use Rattle.rules.specs.Tests.{pick}
 use Rattle.rules.specs.Tables.{Store}
-use Rattle.rules.specs.Calls.{numberOf, Ready}
+use Rattle.rules.specs.Calls.{numberOf, ReadyStore}
 use Rattle.rules.specs.Trace.{linesFrom, outputOf, Given, inRoom}
 use Rattle.rules.specs.declared.Refusal.the-variants.{Room}
 use Rattle.laws.specs.Below.{pick-true, pick-false}
@@ -85,11 +85,11 @@ module _ {n : ℕ} {s₀ : Store} {text room : List ℕ} {s : Store} {l w room�
     pub lent-place : size ≤ length room₁
     lent-place = written .0
 
-    pub lent-ready : Ready s
+    pub lent-ready : ReadyStore s
     lent-ready = written .1 .ready
 
     -- the last line, then all the output
-    pub lent-all : {out out′ : List ℕ} {k r : ℕ} {room₂ : List ℕ} → LastLine (s .base .n) (s .base .states) (s .leaders) out 0 out′ k → k ≤ length out
+    pub lent-all : {out out′ : List ℕ} {k r : ℕ} {room₂ : List ℕ} → LastLine (s .tables .base .n) (s .tables .base .states) (s .tables .leaders) out 0 out′ k → k ≤ length out
         → given r room₂ ≡ inRoom (take size room₁ ++ take k out′) room₁ → given r room₂ ≡ inRoom (outputOf s₀ (linesFrom [] text)) room
     lent-all {out} {out′} {k} x h y =
         y ∙ ap (λ (t : List ℕ). inRoom t room₁) (ap (λ (t : List ℕ). take size room₁ ++ t) (wrote-front (last-line (written .1) x) h) ∙ sym (written .2))

@@ -5,7 +5,7 @@ use Prim.Native.Nat.{ℕ, _+_, _-_, _≤_, _<_}
 use native.Mathlib.Omega.{arith}
 use lib.ListN.{length, take, drop, length-append, drop-of-length-le}
 use lib.Seq.{length-take-le, paste, take-paste}
-use Rattle.rules.specs.Words.{Sized}
+use Rattle.rules.specs.Words.{SizedStore}
 use Rattle.rules.specs.Tables.{Store}
 use Rattle.rules.specs.Trace.{linesFrom, outputOf}
 use Rattle.lines.specs.Ending.{Closed}
@@ -25,7 +25,7 @@ pub record Holds (s₀ : Store) (text room₀ : List ℕ) (start : ℕ) (s : Sto
 
 -- so far up to `at`, and the store stands; s₀ and the room had their lengths too
 pub record Pouring (n : ℕ) (s₀ : Store) (text room₀ : List ℕ) (start : ℕ) (s : Store) (l w room : List ℕ) (at size low : ℕ) : Type 0 where
-  pub sized : Sized s₀
+  pub sized : SizedStore s₀
   pub same : length room ≡ length room₀
   pub begins : start ≤ length room₀
   pub inside : at ≤ length text

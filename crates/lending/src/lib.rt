@@ -65,6 +65,7 @@ fn pour(
     leaders: &mut [u16],
     holds: &mut [u16],
     counts: &mut [u32],
+    register: &mut [u16],
     list: &mut [u16],
     work: &mut [u32],
     from: usize,
@@ -72,11 +73,11 @@ fn pour(
     room: &mut [u8],
     start: usize,
 ) -> Place
-    requires { ⌜ Stands n (storeOf n (now states) (now links) (now leaders) (now holds) (now counts)) (now list) (now work) from
+    requires { ⌜ Stands n (storeOf n (now states) (now links) (now leaders) (now holds) (now counts) (now register)) (now list) (now work) from
         × Closed (now text) × (longest ≤ length (now out)) × (start ≤ length (now room)) ⌝ }
-    ensures { λ r. ⌜ Poured n (storeOf n (now (states .entry)) (now (links .entry)) (now (leaders .entry)) (now (holds .entry)) (now (counts .entry)))
+    ensures { λ r. ⌜ Poured n (storeOf n (now (states .entry)) (now (links .entry)) (now (leaders .entry)) (now (holds .entry)) (now (counts .entry)) (now (register .entry)))
         (now (text .entry)) (now (room .entry)) start
-        (storeOf n (now (states .exit)) (now (links .exit)) (now (leaders .exit)) (now (holds .exit)) (now (counts .exit)))
+        (storeOf n (now (states .exit)) (now (links .exit)) (now (leaders .exit)) (now (holds .exit)) (now (counts .exit)) (now (register .exit)))
         (now (list .exit)) (now (work .exit)) (now (room .exit)) r ⌝ }
 {
     let mut at = 0;
@@ -91,6 +92,7 @@ fn pour(
             leaders,
             holds,
             counts,
+            register,
             list,
             work,
             low,
@@ -137,16 +139,17 @@ fn pour_all(
     leaders: &mut [u16],
     holds: &mut [u16],
     counts: &mut [u32],
+    register: &mut [u16],
     list: &mut [u16],
     work: &mut [u32],
     from: usize,
     out: &mut [u8],
     room: &mut [u8],
 ) -> Place
-    requires { ⌜ Stands n (storeOf n (now states) (now links) (now leaders) (now holds) (now counts)) (now list) (now work) from × (longest ≤ length (now out)) ⌝ }
-    ensures { λ r. ⌜ Filled n (storeOf n (now (states .entry)) (now (links .entry)) (now (leaders .entry)) (now (holds .entry)) (now (counts .entry)))
+    requires { ⌜ Stands n (storeOf n (now states) (now links) (now leaders) (now holds) (now counts) (now register)) (now list) (now work) from × (longest ≤ length (now out)) ⌝ }
+    ensures { λ r. ⌜ Filled n (storeOf n (now (states .entry)) (now (links .entry)) (now (leaders .entry)) (now (holds .entry)) (now (counts .entry)) (now (register .entry)))
         (now (text .entry)) (now (room .entry))
-        (storeOf n (now (states .exit)) (now (links .exit)) (now (leaders .exit)) (now (holds .exit)) (now (counts .exit)))
+        (storeOf n (now (states .exit)) (now (links .exit)) (now (leaders .exit)) (now (holds .exit)) (now (counts .exit)) (now (register .exit)))
         (now (list .exit)) (now (work .exit)) (now (room .exit)) r ⌝ }
 {
     let whole = reader::whole(text);
@@ -158,6 +161,7 @@ fn pour_all(
         leaders,
         holds,
         counts,
+        register,
         list,
         work,
         from,
@@ -178,6 +182,7 @@ fn pour_all(
         leaders,
         holds,
         counts,
+        register,
         list,
         work,
         low,
@@ -221,6 +226,7 @@ pub fn lent_trace(text: &[u8], room: &mut [u8]) -> u64
     let mut leaders = [65535u16; 1024];
     let mut holds = [0u16; 1024];
     let mut counts = [0u32; 1024];
+    let mut register = [0u16; Store::ENTRIES];
     let mut list = [0u16; 1024];
     let mut work = [0u32; 8192];
     let mut out = [0u8; 8192];
@@ -232,6 +238,7 @@ pub fn lent_trace(text: &[u8], room: &mut [u8]) -> u64
         &mut leaders,
         &mut holds,
         &mut counts,
+        &mut register,
         &mut list,
         &mut work,
         0,

@@ -14,7 +14,7 @@ use Rattle.rules.specs.declared.Command.the-variants.{New, Set, Freeze, Acquire
 use Rattle.rules.specs.declared.Line.{Line}
 use Rattle.rules.specs.declared.Line.the-variants.{Does, Bad}
 use Rattle.lines.specs.declared.Named.{Named}
-use Rattle.lines.specs.declared.Named.the-variants.{Piece, Nothing}
+use Rattle.lines.specs.declared.Named.the-variants.{Last, Nothing}
 use Rattle.lines.specs.declared.Found.{Found}
 use Rattle.lines.specs.declared.Found.the-variants.{Right, Other}
 
@@ -60,6 +60,14 @@ abbrev pub namingBy : (ℕ → Command) → Word → Front
 namingBy c bad = other
 namingBy c (is p rest) = endedBy (c p) rest
 
+abbrev pub seatOrBy : (ℕ → ℕ → Command) → ℕ → List ℕ → Front
+seatOrBy c p [] = other
+seatOrBy c p (b ∷ bs) = pick (eqb b 10) (right (c p 0) bs) (namingBy (c p) (word (b ∷ bs)))
+
+abbrev pub seatingBy : (ℕ → ℕ → Command) → Word → Front
+seatingBy c bad = other
+seatingBy c (is p rest) = seatOrBy c p rest
+
 abbrev pub setToBy : ℕ → ℕ → Word → Front
 setToBy p k bad = other
 setToBy p k (is t rest) = endedBy (Set p k t) rest
@@ -76,20 +84,25 @@ unfoldable pub chosenBy : ℕ → List ℕ → Front
 chosenBy b rest =
     pick (eqb b 110) (endedBy New rest)
     (pick (eqb b 115) (setPieceBy (word rest))
-    (pick (eqb b 102) (namingBy Freeze (word rest))
-    (pick (eqb b 97) (namingBy Acquire (word rest))
-    (pick (eqb b 114) (namingBy Release (word rest))
+    (pick (eqb b 102) (seatingBy Freeze (word rest))
+    (pick (eqb b 97) (seatingBy Acquire (word rest))
+    (pick (eqb b 114) (seatingBy Release (word rest))
     (pick (eqb b 98) (namingBy Bin (word rest))
     (pick (eqb b 108) (namingBy Look (word rest)) other))))))
 
--- the command c of the piece named
+-- the command c of what is named last
 abbrev pub foundBy : (ℕ → Command) → Named → Found
-foundBy c (Piece p next) = Right (c p) next
+foundBy c (Last p next) = Right (c p) next
 foundBy c Nothing = Other
 
--- what stands at a place names a piece, for every command that names one
+-- what stands at a place is the last word, for every command that has one
 pub record Names (text : List ℕ) (at : ℕ) (r : Named) : Type 0 where
   pub exact : (c : ℕ → Command) → frontOf text (foundBy c r) ≡ namingBy c (word (drop at text))
+  pub inside : (c : ℕ → Command) → nextOf (foundBy c r) ≤ length text
+
+-- what stands behind the piece names the seat that acts, for every command that does
+pub record Seats (text : List ℕ) (at : ℕ) (r : Named) : Type 0 where
+  pub exact : (c : ℕ → ℕ → Command) (p : ℕ) → frontOf text (foundBy (c p) r) ≡ seatOrBy c p (drop at text)
   pub inside : (c : ℕ → Command) → nextOf (foundBy c r) ≤ length text
 
 -- ---- a word before byte 10 is the word of the line

@@ -5,75 +5,23 @@ use mathlib.Core.List.{List, [], _∷_, _++_}
 use Prim.Native.Nat.{ℕ, suc, _+_, _≤_, _<_}
 use native.Mathlib.Omega.{arith}
 use native.Mathlib.Numerals.{add-one}
-use borrow.Author.Tests.{leb-true, leb-false, eq-eqb, ne-eqb}
-use lib.Dec.{eqb, leb}
-use lib.ListN.{length, getD, take, drop, length-drop}
-use lib.Seq.{drop-cons, getD-drop}
-use Rattle.rules.specs.Tests.{_&_, pick}
-use Rattle.rules.specs.Trace.{Word, is, bad, digits, decimalFrom, numberOfDigits, number, word, target, targetWord, ends, naming, setTo, setPlace, setPiece, chosen, says}
+use borrow.Author.Tests.{eq-eqb, ne-eqb}
+use lib.Dec.{eqb}
+use lib.ListN.{length, getD, drop}
+use lib.Seq.{drop-cons}
+use Rattle.rules.specs.Tests.{pick}
+use Rattle.rules.specs.Trace.{Word, is, bad, word, targetWord, ends, naming, seatedBy, seatedOr, seated, setTo, setPlace, setPiece, chosen, says}
 use Rattle.rules.specs.declared.Command.{Command}
 use Rattle.rules.specs.declared.Command.the-variants.{New, Set, Freeze, Acquire, Release, Bin, Look}
 use Rattle.rules.specs.declared.Line.{Line}
 use Rattle.rules.specs.declared.Line.the-variants.{Bad}
 use Rattle.lines.specs.declared.Named.{Named}
-use Rattle.lines.specs.declared.Named.the-variants.{Piece, Nothing}
+use Rattle.lines.specs.declared.Named.the-variants.{Last, Nothing}
 use Rattle.lines.specs.declared.Found.{Found}
 use Rattle.lines.specs.declared.Found.the-variants.{Right, Other}
-use Rattle.lines.specs.Ending.{Closed, Unended, Front, right, other, leaving, frontOf, nextOf, Reads, endedBy, namingBy, setToBy, setPlaceBy, setPieceBy, foundBy, Names, chosenBy}
-use Rattle.lines.specs.Ending.{behind, digits-most, word-ended, target-word-ended}
-
--- ---- what is left behind a word: of a line without end one without end, at most k bytes shorter
-
-abbrev Left : ℕ → List ℕ → Word → Type 0
-Left k l (is p r) = Unended r × (length l ≤ k + length r)
-Left k l bad = Unit
-
-left-more : (b : ℕ) (k : ℕ) (bs : List ℕ) (w : Word) → Left k bs w → Left (suc k) (b ∷ bs) w
-left-more b k bs (is p r) h = (h .0, omega (arith, h .1))
-left-more b k bs bad h = tt
-
-unended-tail : (b : ℕ) (bs : List ℕ) → Unended (b ∷ bs) → Unended bs
-unended-tail b bs u i l e = u (suc i) (omega arith) e
-
-number-left : (l : List ℕ) → Unended l → Left 5 l (number l)
-unfolding number numberOfDigits
-number-left l u = by-test (leb 1 (digits l)) (leb (digits l) 5) (leb (decimalFrom 0 (take (digits l) l)) 65535) refl
-  where
-    by-test : (a b c : Bool) → leb (digits l) 5 ≡ b → Left 5 l (pick (a & b & c) (is (decimalFrom 0 (take (digits l) l)) (drop (digits l) l)) bad)
-    by-test true true true e = (
-      λ i h x. u (digits l + i) (omega (arith, length-drop (digits l) l)) (sym (getD-drop (digits l) l i 0) ∙ x),
-      omega (arith, length-drop (digits l) l, digits-most l, leb-true (digits l) 5 e),
-    )
-    by-test true true false e = tt
-    by-test true false c e = tt
-    by-test false b c e = tt
-
-word-left : (l : List ℕ) → Unended l → Left 6 l (word l)
-unfolding word
-word-left [] u = tt
-word-left (b ∷ bs) u = by-test (eqb b 32) (left-more b 5 bs (number bs) (number-left bs (unended-tail b bs u)))
-  where
-    by-test : (t : Bool) → Left 6 (b ∷ bs) (number bs) → Left 6 (b ∷ bs) (pick t (number bs) bad)
-    by-test true h = h
-    by-test false h = tt
-
-target-left : (l : List ℕ) → Unended l → Left 5 l (target l)
-unfolding target
-target-left [] u = tt
-target-left (b ∷ bs) u = by-test (eqb b 45) (number-left (b ∷ bs) u)
-  where
-    by-test : (t : Bool) → Left 5 (b ∷ bs) (number (b ∷ bs)) → Left 5 (b ∷ bs) (pick t (is 65535 bs) (number (b ∷ bs)))
-    by-test true h = (unended-tail b bs u, omega arith)
-    by-test false h = h
-
-target-word-left : (l : List ℕ) → Unended l → Left 6 l (targetWord l)
-unfolding targetWord
-target-word-left [] u = tt
-target-word-left (b ∷ bs) u = by-test (eqb b 32) (left-more b 5 bs (target bs) (target-left bs (unended-tail b bs u)))
-  where
-    by-test : (t : Bool) → Left 6 (b ∷ bs) (target bs) → Left 6 (b ∷ bs) (pick t (target bs) bad)
-    by-test true h = h
-    by-test false h = tt
+use Rattle.lines.specs.Ending.{Closed, Unended, Front, right, other, leaving, frontOf, nextOf, Reads, endedBy, namingBy, seatOrBy, seatingBy, setToBy, setPlaceBy, setPieceBy}
+use Rattle.lines.specs.Ending.{foundBy, Names, Seats, chosenBy, behind, word-ended, target-word-ended}
+use Rattle.lines.specs.Left.{Left, unended-tail, word-left, target-word-left, says-chosen}
 
 -- ---- a line with byte 10 behind it says what the line says
 
@@ -85,6 +33,19 @@ module _ (more : List ℕ) where
   naming-is : (c : ℕ → Command) (k : ℕ) (l : List ℕ) (w : Word) → Left k l w → namingBy c (behind w (10 ∷ more)) ≡ leaving (naming c w) more
   naming-is c k l (is p r) h = ended-is (c p) r (h .0)
   naming-is c k l bad h = refl
+
+  seat-is : (c : ℕ → ℕ → Command) (p : ℕ) (l : List ℕ) (w : Word) → Left 6 l w → namingBy (c p) (behind w (10 ∷ more)) ≡ leaving (seatedBy c p w) more
+  seat-is c p l (is i r) h = ended-is (c p i) r (h .0)
+  seat-is c p l bad h = refl
+
+  seat-or-is : (c : ℕ → ℕ → Command) (p : ℕ) (l : List ℕ) → Unended l → seatOrBy c p (l ++ (10 ∷ more)) ≡ leaving (seatedOr c p l) more
+  seat-or-is c p [] u = refl
+  seat-or-is c p (b ∷ bs) u =
+      rw (ne-eqb b 10 (u 0 (omega arith)), word-ended (b ∷ bs) more) (seat-is c p (b ∷ bs) (word (b ∷ bs)) (word-left (b ∷ bs) u))
+
+  seated-is : (c : ℕ → ℕ → Command) (l : List ℕ) (w : Word) → Left 6 l w → seatingBy c (behind w (10 ∷ more)) ≡ leaving (seated c w) more
+  seated-is c l (is p r) h = seat-or-is c p r (h .0)
+  seated-is c l bad h = refl
 
   set-to-is : (p k : ℕ) (l : List ℕ) (w : Word) → Left 6 l w → setToBy p k (behind w (10 ∷ more)) ≡ leaving (setTo p k w) more
   set-to-is p k l (is t r) h = ended-is (Set p k t) r (h .0)
@@ -108,9 +69,9 @@ module _ (more : List ℕ) where
       rw (word-ended l more)
       (pick-is (eqb b 110) (ends New l) set (ended-is New l u)
       (pick-is (eqb b 115) (setPiece w) freeze (set-piece-is l w h)
-      (pick-is (eqb b 102) (naming Freeze w) acquire (naming-is Freeze 6 l w h)
-      (pick-is (eqb b 97) (naming Acquire w) release (naming-is Acquire 6 l w h)
-      (pick-is (eqb b 114) (naming Release w) bin (naming-is Release 6 l w h)
+      (pick-is (eqb b 102) (seated Freeze w) acquire (seated-is Freeze l w h)
+      (pick-is (eqb b 97) (seated Acquire w) release (seated-is Acquire l w h)
+      (pick-is (eqb b 114) (seated Release w) bin (seated-is Release l w h)
       (pick-is (eqb b 98) (naming Bin w) look (naming-is Bin 6 l w h)
       (pick-is (eqb b 108) (naming Look w) Bad (naming-is Look 6 l w h) refl)))))))
     where
@@ -127,64 +88,16 @@ module _ (more : List ℕ) where
       bin = pick (eqb b 98) (naming Bin w) look
 
       release : Line
-      release = pick (eqb b 114) (naming Release w) bin
+      release = pick (eqb b 114) (seated Release w) bin
 
       acquire : Line
-      acquire = pick (eqb b 97) (naming Acquire w) release
+      acquire = pick (eqb b 97) (seated Acquire w) release
 
       freeze : Line
-      freeze = pick (eqb b 102) (naming Freeze w) acquire
+      freeze = pick (eqb b 102) (seated Freeze w) acquire
 
       set : Line
       set = pick (eqb b 115) (setPiece w) freeze
-
--- ---- a line over 64 bytes is bad by its words alone
-
-ends-long : (c : Command) (r : List ℕ) → 0 < length r → ends c r ≡ Bad
-ends-long c [] h = absurd (omega arith)
-ends-long c (b ∷ bs) h = refl
-
-naming-long : (c : ℕ → Command) (l : List ℕ) (w : Word) → Left 6 l w → 18 < length l → naming c w ≡ Bad
-naming-long c l (is p r) h k = ends-long (c p) r (omega (arith, h .1))
-naming-long c l bad h k = refl
-
-set-to-long : (p k : ℕ) (l : List ℕ) (w : Word) → Left 6 l w → 6 < length l → setTo p k w ≡ Bad
-set-to-long p k l (is t r) h m = ends-long (Set p k t) r (omega (arith, h .1))
-set-to-long p k l bad h m = refl
-
-set-place-long : (p : ℕ) (l : List ℕ) (w : Word) → Left 6 l w → 12 < length l → setPlace p w ≡ Bad
-set-place-long p l (is k r) h m = set-to-long p k r (targetWord r) (target-word-left r (h .0)) (omega (arith, h .1))
-set-place-long p l bad h m = refl
-
-set-piece-long : (l : List ℕ) (w : Word) → Left 6 l w → 18 < length l → setPiece w ≡ Bad
-set-piece-long l (is p r) h m = set-place-long p r (word r) (word-left r (h .0)) (omega (arith, h .1))
-set-piece-long l bad h m = refl
-
-pick-long : (t : Bool) {x y : Line} → x ≡ Bad → y ≡ Bad → pick t x y ≡ Bad
-pick-long true a b = a
-pick-long false a b = b
-
-chosen-long : (b : ℕ) (l : List ℕ) → Unended l → 18 < length l → chosen b l ≡ Bad
-unfolding chosen
-chosen-long b l u k =
-    pick-long (eqb b 110) (ends-long New l (omega arith))
-    (pick-long (eqb b 115) (set-piece-long l (word l) h k)
-    (pick-long (eqb b 102) (naming-long Freeze l (word l) h k)
-    (pick-long (eqb b 97) (naming-long Acquire l (word l) h k)
-    (pick-long (eqb b 114) (naming-long Release l (word l) h k)
-    (pick-long (eqb b 98) (naming-long Bin l (word l) h k)
-    (pick-long (eqb b 108) (naming-long Look l (word l) h k) refl))))))
-  where
-    h : Left 6 l (word l)
-    h = word-left l u
-
-says-chosen : (b : ℕ) (l : List ℕ) → Unended l → says (b ∷ l) ≡ chosen b l
-unfolding says
-says-chosen b l u = by-test (leb (suc (length l)) 64) refl
-  where
-    by-test : (t : Bool) → leb (suc (length l)) 64 ≡ t → pick t (chosen b l) Bad ≡ chosen b l
-    by-test true e = refl
-    by-test false e = sym (chosen-long b l u (omega (arith, leb-false (suc (length l)) 64 e)))
 
 -- ---- at a place of a text
 
@@ -194,6 +107,13 @@ module _ (text : List ℕ) (at : ℕ) where
 
   pub ended-not : (c : Command) → at < length text → (getD text at 0 ≡ 10 → ⊥) → endedBy c (drop at text) ≡ other
   ended-not c l e = rw (drop-cons text at 0 l, ne-eqb (getD text at 0) 10 e)
+
+  -- a line ends behind its piece, or a seat stands there
+  seat-here : (c : ℕ → ℕ → Command) (p : ℕ) → at < length text → getD text at 0 ≡ 10 → seatOrBy c p (drop at text) ≡ right (c p 0) (drop (at + 1) text)
+  seat-here c p l e = rw (drop-cons text at 0 l, add-one at, eq-eqb (getD text at 0) 10 e)
+
+  seat-not : (c : ℕ → ℕ → Command) (p : ℕ) → at < length text → (getD text at 0 ≡ 10 → ⊥) → seatOrBy c p (drop at text) ≡ namingBy (c p) (word (drop at text))
+  seat-not c p l e = rw (drop-cons text at 0 l, ne-eqb (getD text at 0) 10 e)
 
   -- what was found is what the line says
   found-exact : at < length text → (r : Found) → frontOf text r ≡ chosenBy (getD text at 0) (drop (at + 1) text)
@@ -226,15 +146,26 @@ module _ {text : List ℕ} {at : ℕ} where
 
   -- the word p, and what stands at `end` behind it
   module _ {p end : ℕ} (e : word (drop at text) ≡ is p (drop end text)) (h : end < length text) where
-    pub names-piece : getD text end 0 ≡ 10 → Names text at (Piece p (end + 1))
+    pub names-piece : getD text end 0 ≡ 10 → Names text at (Last p (end + 1))
     names-piece x = record { exact = λ c. sym (ap (namingBy c) e ∙ ended-here text end (c p) h x); inside = λ c. omega arith }
 
     pub names-more : (getD text end 0 ≡ 10 → ⊥) → Names text at Nothing
     names-more x = record { exact = λ c. sym (ap (namingBy c) e ∙ ended-not text end (c p) h x); inside = λ c. omega arith }
 
+module _ {text : List ℕ} {at : ℕ} where
+  -- the line ends behind its piece: seat 0 acts
+  pub seats-zero : at < length text → getD text at 0 ≡ 10 → Seats text at (Last 0 (at + 1))
+  seats-zero h x = record { exact = λ c p. sym (seat-here text at c p h x); inside = λ c. omega arith }
+
+  pub seats-named : {r : Named} → at < length text → (getD text at 0 ≡ 10 → ⊥) → Names text at r → Seats text at r
+  seats-named h x n = record { exact = λ c p. n .exact (c p) ∙ sym (seat-not text at c p h x); inside = n .inside }
+
 -- ---- what is found, by the first byte
 
 -- the letter b is that of command c
+abbrev pub SeatLetter : ℕ → (ℕ → ℕ → Command) → Type 0
+SeatLetter b c = (rest : List ℕ) → chosenBy b rest ≡ seatingBy c (word rest)
+
 abbrev pub Letter : ℕ → (ℕ → Command) → Type 0
 Letter b c = (rest : List ℕ) → chosenBy b rest ≡ namingBy c (word rest)
 
@@ -251,22 +182,45 @@ module _ {text : List ℕ} {at : ℕ} (l : at < length text) where
   unfolding chosenBy
   reads-set {r} e h = reads r (rw e (h .0)) (h .1)
 
+  -- a command that names one piece and a seat: without a piece, and with the piece p and what was named behind it
+  seatless : (c : ℕ → ℕ → Command) (b : ℕ) → SeatLetter b c → getD text at 0 ≡ b → word (drop (at + 1) text) ≡ bad → Reads text at Other
+  seatless c b k e w = reads Other (sym (ap (λ (x : ℕ). chosenBy x (drop (at + 1) text)) e ∙ k (drop (at + 1) text) ∙ ap (seatingBy c) w)) (omega arith)
+
+  reads-seated : (c : ℕ → ℕ → Command) (b : ℕ) → SeatLetter b c → getD text at 0 ≡ b
+      → {p end : ℕ} {r : Named} {f : Found} → word (drop (at + 1) text) ≡ is p (drop end text) → Seats text end r → foundBy (c p) r ≡ f → Reads text at f
+  reads-seated c b k e {p} {end} {r} {f} w n same =
+      subst (Reads text at) same
+      (reads (foundBy (c p) r)
+      (n .exact c p ∙ sym (ap (λ (x : ℕ). chosenBy x (drop (at + 1) text)) e ∙ k (drop (at + 1) text) ∙ ap (seatingBy c) w))
+      (n .inside (c p)))
+
   -- a command that names one piece
   reads-named : (c : ℕ → Command) (b : ℕ) → Letter b c → getD text at 0 ≡ b → {r : Named} {f : Found} → Names text (at + 1) r → foundBy c r ≡ f → Reads text at f
   reads-named c b k e {r} {f} n same =
       subst (Reads text at) same
       (reads (foundBy c r) (n .exact c ∙ sym (ap (λ (x : ℕ). chosenBy x (drop (at + 1) text)) e ∙ k (drop (at + 1) text))) (n .inside c))
 
+  module _ (w : word (drop (at + 1) text) ≡ bad) where
+    pub no-freeze : getD text at 0 ≡ 102 → Reads text at Other
+    no-freeze e = seatless Freeze 102 (λ rest. unfold chosenBy in refl) e w
+
+    pub no-acquire : getD text at 0 ≡ 97 → Reads text at Other
+    no-acquire e = seatless Acquire 97 (λ rest. unfold chosenBy in refl) e w
+
+    pub no-release : getD text at 0 ≡ 114 → Reads text at Other
+    no-release e = seatless Release 114 (λ rest. unfold chosenBy in refl) e w
+
+  module _ {p end : ℕ} {r : Named} {f : Found} (w : word (drop (at + 1) text) ≡ is p (drop end text)) (n : Seats text end r) where
+    pub reads-freeze : getD text at 0 ≡ 102 → foundBy (Freeze p) r ≡ f → Reads text at f
+    reads-freeze e same = reads-seated Freeze 102 (λ rest. unfold chosenBy in refl) e w n same
+
+    pub reads-acquire : getD text at 0 ≡ 97 → foundBy (Acquire p) r ≡ f → Reads text at f
+    reads-acquire e same = reads-seated Acquire 97 (λ rest. unfold chosenBy in refl) e w n same
+
+    pub reads-release : getD text at 0 ≡ 114 → foundBy (Release p) r ≡ f → Reads text at f
+    reads-release e same = reads-seated Release 114 (λ rest. unfold chosenBy in refl) e w n same
+
   module _ {r : Named} {f : Found} where
-    pub reads-freeze : getD text at 0 ≡ 102 → Names text (at + 1) r → foundBy Freeze r ≡ f → Reads text at f
-    reads-freeze e n same = reads-named Freeze 102 (λ rest. unfold chosenBy in refl) e n same
-
-    pub reads-acquire : getD text at 0 ≡ 97 → Names text (at + 1) r → foundBy Acquire r ≡ f → Reads text at f
-    reads-acquire e n same = reads-named Acquire 97 (λ rest. unfold chosenBy in refl) e n same
-
-    pub reads-release : getD text at 0 ≡ 114 → Names text (at + 1) r → foundBy Release r ≡ f → Reads text at f
-    reads-release e n same = reads-named Release 114 (λ rest. unfold chosenBy in refl) e n same
-
     pub reads-bin : getD text at 0 ≡ 98 → Names text (at + 1) r → foundBy Bin r ≡ f → Reads text at f
     reads-bin e n same = reads-named Bin 98 (λ rest. unfold chosenBy in refl) e n same
 

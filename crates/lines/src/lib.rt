@@ -5,7 +5,7 @@ ghost use lib.ListN.{length, drop};
 ghost use Rattle.rules.specs.Trace.{number, word, target, targetWord};
 ghost use Rattle.rules.specs.declared.Command.the-variants.{New};
 ghost use Rattle.lines.specs.Cursor.{digitOf, takenOf, wordOf, placeOf};
-ghost use Rattle.lines.specs.Ending.{Names, endedBy, Closed, Reads, frontOf, nextOf, setPieceBy};
+ghost use Rattle.lines.specs.Ending.{Names, Seats, endedBy, Closed, Reads, frontOf, nextOf, setPieceBy};
 use rules::Command;
 use rules::Store;
 
@@ -118,15 +118,15 @@ impl Cursor {
     }
 }
 
-// What stands behind the letter of a command that names one piece.
+// What a line names last.
 enum Named {
-    // A piece, with byte 10 behind it; the place behind that.
-    Piece(u16, usize),
+    // A piece or a seat, with byte 10 behind it; the place behind that.
+    Last(u16, usize),
     // Anything else.
     Nothing,
 }
 
-// The piece that a line names behind its first byte.
+// The one word that is left of a line.
 fn name_line(text: &[u8], at: usize) -> Named
     requires { ⌜ (at < length (now text)) × Closed (now text) ⌝ }
     ensures { λ r. ⌜ Names (now (text .entry)) at r ⌝ }
@@ -138,7 +138,18 @@ fn name_line(text: &[u8], at: usize) -> Named
     if text[end] != 10 {
         return Named::Nothing;
     }
-    Named::Piece(p, end + 1)
+    Named::Last(p, end + 1)
+}
+
+// The seat that a line names behind its piece, which ends there: without a seat, seat 0 acts.
+fn seat_line(text: &[u8], end: usize) -> Named
+    requires { ⌜ (end < length (now text)) × Closed (now text) ⌝ }
+    ensures { λ r. ⌜ Seats (now (text .entry)) end r ⌝ }
+{
+    if text[end] == 10 {
+        return Named::Last(0, end + 1);
+    }
+    name_line(text, end)
 }
 
 // A line `n` behind its first byte.
@@ -183,24 +194,45 @@ pub fn read(text: &[u8], at: usize) -> Found
     match b {
         b'n' => new_line(text, at + 1),
         b's' => set_line(text, at + 1),
-        b'f' => match name_line(text, at + 1) {
-            Named::Piece(p, next) => Found::Right(Command::Freeze(p), next),
-            Named::Nothing => Found::Other,
-        },
-        b'a' => match name_line(text, at + 1) {
-            Named::Piece(p, next) => Found::Right(Command::Acquire(p), next),
-            Named::Nothing => Found::Other,
-        },
-        b'r' => match name_line(text, at + 1) {
-            Named::Piece(p, next) => Found::Right(Command::Release(p), next),
-            Named::Nothing => Found::Other,
-        },
+        b'f' => {
+            let Taken::Number(p, c) = (Cursor { at: at + 1 }).word(text) else {
+                return Found::Other;
+            };
+            match seat_line(text, c.at) {
+                Named::Last(seat, next) => Found::Right(Command::Freeze { p: p, seat: seat }, next),
+                Named::Nothing => Found::Other,
+            }
+        }
+        b'a' => {
+            let Taken::Number(p, c) = (Cursor { at: at + 1 }).word(text) else {
+                return Found::Other;
+            };
+            match seat_line(text, c.at) {
+                Named::Last(seat, next) => Found::Right(
+                    Command::Acquire { p: p, seat: seat },
+                    next,
+                ),
+                Named::Nothing => Found::Other,
+            }
+        }
+        b'r' => {
+            let Taken::Number(p, c) = (Cursor { at: at + 1 }).word(text) else {
+                return Found::Other;
+            };
+            match seat_line(text, c.at) {
+                Named::Last(seat, next) => Found::Right(
+                    Command::Release { p: p, seat: seat },
+                    next,
+                ),
+                Named::Nothing => Found::Other,
+            }
+        }
         b'b' => match name_line(text, at + 1) {
-            Named::Piece(p, next) => Found::Right(Command::Bin(p), next),
+            Named::Last(p, next) => Found::Right(Command::Bin(p), next),
             Named::Nothing => Found::Other,
         },
         b'l' => match name_line(text, at + 1) {
-            Named::Piece(p, next) => Found::Right(Command::Look(p), next),
+            Named::Last(p, next) => Found::Right(Command::Look(p), next),
             Named::Nothing => Found::Other,
         },
         _ => Found::Other,

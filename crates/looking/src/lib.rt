@@ -1,8 +1,9 @@
 // Look on sound tables: what a piece is, and nothing changes.
 ghost use mathlib.Core.List.{[]};
-ghost use Rattle.rules.specs.Tables.{storeOf};
-ghost use Rattle.rules.specs.Calls.{Ready, Did, saw, effect};
+ghost use Rattle.rules.specs.Tables.{tablesOf};
+ghost use Rattle.rules.specs.Calls.{Ready, saw};
 ghost use Rattle.rules.specs.declared.Command.the-variants.{Look};
+ghost use Rattle.laws.specs.ByTables.{DidTables, tablesEffect};
 use rules::Refusal;
 use rules::Seen;
 use rules::Store;
@@ -17,9 +18,9 @@ pub fn look(
     counts: &[u32],
     p: u16,
 ) -> Seen
-    requires { ⌜ Ready (storeOf n (now states) (now links) (now leaders) (now holds) (now counts)) ⌝ }
-    ensures { λ r. ⌜ Did (Look p) (storeOf n (now (states .entry)) (now (links .entry)) (now (leaders .entry)) (now (holds .entry)) (now (counts .entry))) []
-        (effect (saw r) (storeOf n (now (states .entry)) (now (links .entry)) (now (leaders .entry)) (now (holds .entry)) (now (counts .entry))) []) ⌝ }
+    requires { ⌜ Ready (tablesOf n (now states) (now links) (now leaders) (now holds) (now counts)) ⌝ }
+    ensures { λ r. ⌜ DidTables (Look p) (tablesOf n (now (states .entry)) (now (links .entry)) (now (leaders .entry)) (now (holds .entry)) (now (counts .entry))) []
+        (tablesEffect (saw r) (tablesOf n (now (states .entry)) (now (links .entry)) (now (leaders .entry)) (now (holds .entry)) (now (counts .entry))) []) ⌝ }
 {
     let q = p as usize;
     if n <= q {

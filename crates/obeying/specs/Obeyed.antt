@@ -5,7 +5,7 @@ use Prim.Native.Nat.{ℕ, _+_, _≤_, _<_}
 use lib.Dec.{T}
 use lib.ListN.{length, getD}
 use Rattle.rules.specs.Tables.{Store}
-use Rattle.rules.specs.Calls.{Reply, answered, saw, effect, Ready, Clear, Did}
+use Rattle.rules.specs.Calls.{Reply, answered, saw, effect, ReadyStore, Clear, Did}
 use Rattle.rules.specs.History.{isAccepted, freedIn}
 use Rattle.rules.specs.declared.Command.{Command}
 use Rattle.rules.specs.declared.Answer.{Answer}
@@ -18,19 +18,19 @@ abbrev pub replyOf : code.Reply → Reply
 replyOf (Answered a) = answered a
 replyOf (Saw s) = saw s
 
--- sound tables of capacity n, room for the list, a clear work, and a number below which nothing is free
+-- a sound store of capacity n, room for the list, a clear work, and a number below which nothing is free
 pub record Stands (n : ℕ) (s : Store) (l w : List ℕ) (from : ℕ) : Type 0 where
-  pub ready : Ready s
+  pub ready : ReadyStore s
   pub room : n ≤ length l
   pub clear : Clear n w
   pub small : from ≤ n
-  pub none : NoneFree (s .base .states) from
+  pub none : NoneFree (s .tables .base .states) from
 
 -- the reply, the store and the list are what the rules give, work is as it was, and the store stands again
 pub record Obeys (c : Command) (s : Store) (l w : List ℕ) (r : Reply) (s′ : Store) (l′ w′ : List ℕ) (from : ℕ) : Type 0 where
   pub did : Did c s l (effect r s′ l′)
   pub clear : w′ ≡ w
-  pub stands : Stands (s .base .n) s′ l′ w′ from
+  pub stands : Stands (s .tables .base .n) s′ l′ w′ from
 
 -- above the number that new gave out; `from` where it was refused
 abbrev pub aboveOf : Answer → ℕ → ℕ

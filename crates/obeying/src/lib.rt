@@ -1,4 +1,4 @@
-// Any command's work on sound tables, and the number below which nothing is free after it.
+// Any command's work on a sound store, and the number below which nothing is free after it.
 ghost use mathlib.Core.Path.{_≡_};
 ghost use Prim.Native.Nat.{_≤_};
 ghost use lib.ListN.{length};
@@ -84,15 +84,16 @@ pub fn obey(
     leaders: &mut [u16],
     holds: &mut [u16],
     counts: &mut [u32],
+    register: &mut [u16],
     list: &mut [u16],
     work: &mut [u32],
     from: usize,
     command: Command,
 ) -> Obeyed
-    requires { ⌜ Stands n (storeOf n (now states) (now links) (now leaders) (now holds) (now counts)) (now list) (now work) from ⌝ }
-    ensures { λ r. ⌜ Obeys command (storeOf n (now (states .entry)) (now (links .entry)) (now (leaders .entry)) (now (holds .entry)) (now (counts .entry)))
+    requires { ⌜ Stands n (storeOf n (now states) (now links) (now leaders) (now holds) (now counts) (now register)) (now list) (now work) from ⌝ }
+    ensures { λ r. ⌜ Obeys command (storeOf n (now (states .entry)) (now (links .entry)) (now (leaders .entry)) (now (holds .entry)) (now (counts .entry)) (now (register .entry)))
         (now (list .entry)) (now (work .entry)) (replyOf (r .reply))
-        (storeOf n (now (states .exit)) (now (links .exit)) (now (leaders .exit)) (now (holds .exit)) (now (counts .exit)))
+        (storeOf n (now (states .exit)) (now (links .exit)) (now (leaders .exit)) (now (holds .exit)) (now (counts .exit)) (now (register .exit)))
         (now (list .exit)) (now (work .exit)) (r .from) ⌝ }
 {
     match command {
@@ -110,22 +111,44 @@ pub fn obey(
                 from: lower(answer, list, from),
             }
         }
-        Command::Freeze(p) => {
-            let answer = freezing::freeze(n, states, links, leaders, holds, counts, work, p);
+        Command::Freeze { p, seat } => {
+            let answer = freezing::freeze(
+                n,
+                states,
+                links,
+                leaders,
+                holds,
+                counts,
+                register,
+                work,
+                p,
+                seat,
+            );
             Obeyed {
                 reply: Reply::Answered(answer),
                 from: from,
             }
         }
-        Command::Acquire(p) => {
-            let answer = holding::acquire(n, states, leaders, holds, counts, p);
+        Command::Acquire { p, seat } => {
+            let answer = holding::acquire(n, states, leaders, holds, counts, register, p, seat);
             Obeyed {
                 reply: Reply::Answered(answer),
                 from: from,
             }
         }
-        Command::Release(p) => {
-            let answer = holding::release(n, states, links, leaders, holds, counts, list, p);
+        Command::Release { p, seat } => {
+            let answer = holding::release(
+                n,
+                states,
+                links,
+                leaders,
+                holds,
+                counts,
+                register,
+                list,
+                p,
+                seat,
+            );
             Obeyed {
                 reply: Reply::Answered(answer),
                 from: lower(answer, list, from),

@@ -12,11 +12,11 @@ use Rattle.rules.specs.Calls.{Call, Areas, numberOf, Reply, answered, saw, chec
 use Rattle.rules.specs.Trace.{Given, lentTrace}
 use Rattle.rules.specs.History.{Event, event, isAccepted, History, refusing, accepting, Listing}
 use Rattle.rules.specs.declared.Refusal.{Refusal}
-use Rattle.rules.specs.declared.Refusal.the-variants.{Size, Unsound, Number, Free, State, Limit, NotHeld, Linked, Full, Long, Room}
+use Rattle.rules.specs.declared.Refusal.the-variants.{Size, Unsound, Number, Free, State, Limit, NotHeld, Linked, Full, Long, Room, Seat, NotYours, Register}
 use Rattle.rules.specs.declared.Answer.the-variants.{Done, Refused}
 use Rattle.rules.specs.declared.Seen.the-variants.{Piece, Unseen}
 use Rattle.rules.specs.declared.Checked.the-variants.{Yes, No, Unchecked}
-use Rattle.laws.specs.Demand3.{demand3}
+use Rattle.demands.specs.Demand3.{demand3}
 use Rattle.pieces.specs.Packed.{Packs}
 use Rattle.pieces.specs.Told.{Told, toldAnswer, toldSeen, toldChecked, number-tells}
 
@@ -41,6 +41,9 @@ numbered Linked e = omega arith
 numbered Full e = omega arith
 numbered Long e = omega arith
 numbered Room e = omega arith
+numbered Seat e = omega arith
+numbered NotYours e = omega arith
+numbered Register e = omega arith
 
 -- the lowest byte of the number is 0 exactly if the call was accepted
 told-accepted : (r : ℕ) (x : Reply) → Told r x → r % 256 ≡ 0 → T (isAccepted x)

@@ -9,12 +9,12 @@ use lib.ListN.{getD}
 use Rattle.rules.specs.Tests.{pick}
 use Rattle.rules.specs.Limits.{none}
 use Rattle.rules.specs.Below.{lowestFrom, lowest}
-use Rattle.rules.specs.Tables.{Base, Store, state, isFrozen, leaderEntry}
+use Rattle.rules.specs.Tables.{Base, Tables, state, isFrozen, leaderEntry}
 use Rattle.rules.specs.Words.{Frozen, Well, wfree, wdraft, wfrozen}
 use Rattle.rules.specs.Commands.{firstFree}
 use Rattle.rules.specs.Calls.{numberOf, Ready}
 use Rattle.rules.specs.declared.Refusal.{Refusal}
-use Rattle.rules.specs.declared.Refusal.the-variants.{Size, Unsound, Number, Free, State, Limit, NotHeld, Linked, Full, Long, Room}
+use Rattle.rules.specs.declared.Refusal.the-variants.{Size, Unsound, Number, Free, State, Limit, NotHeld, Linked, Full, Long, Room, Seat, NotYours, Register}
 use Rattle.laws.specs.Below.{T-dec}
 use Rattle.laws.specs.Words.{isFrozen→, leaderOf-is}
 use Rattle.laws.specs.Sound.{leaderEntry-frozen, leaderEntry-other, sound→entries}
@@ -34,6 +34,9 @@ number-fits Linked = omega arith
 number-fits Full = omega arith
 number-fits Long = omega arith
 number-fits Room = omega arith
+number-fits Seat = omega arith
+number-fits NotYours = omega arith
+number-fits Register = omega arith
 
 -- the lowest with f, or none
 lowest-fits : (p : ℕ) (f : ℕ → Bool) (k : ℕ) → p ≤ none → k ≤ none → p + k ≤ none → lowestFrom p f k ≤ none
@@ -51,7 +54,7 @@ unfolding firstFree lowest
 free-fits b h = lowest-fits 0 _ (b .n) (omega arith) (omega arith) (omega arith)
 
 -- what look sees in sound tables
-module _ {s : Store} (o : Ready s) where
+module _ {s : Tables} (o : Ready s) where
   pub state-fits : (p : ℕ) → state (s .base) p ≤ 2
   unfolding state
   state-fits = past (s .base .states) 2 (o .sized .base .states) (λ i l. go i (wells-of s o i l))

@@ -5,7 +5,7 @@ use Prim.Native.Nat.{ℕ, _/_, _%_, _≤_, _<_}
 use native.Mathlib.Omega.{arith}
 use Rattle.rules.specs.Tests.{pick}
 use Rattle.rules.specs.Limits.{none}
-use Rattle.rules.specs.Tables.{Store, state, isSound}
+use Rattle.rules.specs.Tables.{Tables, state, isSoundStore}
 use Rattle.rules.specs.Commands.{Verdict, accepted, refused, firstFree, valueOf}
 use Rattle.rules.specs.Calls.{Values, valuesOf, SeenValues, seenValuesOf, CheckedValues, checkedValuesOf, Reply, answered, saw, checked}
 use Rattle.rules.specs.Calls.{Call, start, does, check, Areas, Ready, judge, refusedBy, refusedCall, seenAt, doneBy, acceptedBy, cleared, acceptedCall, ended, outcomeOf}
@@ -65,9 +65,9 @@ unfolding refusedCall refusedBy
 refused-told r start = refused-answer r
 refused-told r (does New) = refused-answer r
 refused-told r (does (Set p k t)) = refused-answer r
-refused-told r (does (Freeze p)) = refused-answer r
-refused-told r (does (Acquire p)) = refused-answer r
-refused-told r (does (Release p)) = refused-answer r
+refused-told r (does (Freeze p seat)) = refused-answer r
+refused-told r (does (Acquire p seat)) = refused-answer r
+refused-told r (does (Release p seat)) = refused-answer r
 refused-told r (does (Bin p)) = refused-answer r
 refused-told r (does (Look p)) = seen-told (Unseen r) (number-fits r) (omega arith) (omega arith) (record { count = omega arith; holds = omega arith })
 refused-told r check = checked-told (Unchecked r) (number-fits r) (omega arith)
@@ -76,7 +76,7 @@ refused-told r check = checked-told (Unchecked r) (number-fits r) (omega arith)
 done-told : (v f : ℕ) → v ≤ none → Told (packed (answered (Done v f))) (answered (Done v f))
 done-told v f h = answer-told (Done v f) (omega arith) h
 
-saw-told : {s : Store} → Ready s → (p : ℕ) → Told (packed (saw (seenAt s p))) (saw (seenAt s p))
+saw-told : {s : Tables} → Ready s → (p : ℕ) → Told (packed (saw (seenAt s p))) (saw (seenAt s p))
 unfolding seenAt
 saw-told {s} o p = seen-told (seenAt s p) (omega arith) (state-fits o p) (leader-fits o p) (seen-fitting o p)
 
@@ -87,14 +87,14 @@ checks-told false = checked-told No (omega arith) (omega arith)
 accepted-told : (a : Areas) (c : Call) → judge a c ≡ accepted → Told (packed (acceptedCall (cleared a c) c .reply)) (acceptedCall (cleared a c) c .reply)
 unfolding acceptedCall acceptedBy cleared doneBy valueOf
 accepted-told a start e = done-told none 0 (omega arith)
-accepted-told a (does New) e = done-told (firstFree (a .store .base)) _ (free-fits (a .store .base) (accepted-ready a New e .sized .base .most))
+accepted-told a (does New) e = done-told (firstFree (a .store .tables .base)) _ (free-fits (a .store .tables .base) (accepted-ready a New e .sized .base .most))
 accepted-told a (does (Set p k t)) e = done-told none _ (omega arith)
-accepted-told a (does (Freeze p)) e = done-told none _ (omega arith)
-accepted-told a (does (Acquire p)) e = done-told none _ (omega arith)
-accepted-told a (does (Release p)) e = done-told none _ (omega arith)
+accepted-told a (does (Freeze p seat)) e = done-told none _ (omega arith)
+accepted-told a (does (Acquire p seat)) e = done-told none _ (omega arith)
+accepted-told a (does (Release p seat)) e = done-told none _ (omega arith)
 accepted-told a (does (Bin p)) e = done-told none _ (omega arith)
 accepted-told a (does (Look p)) e = saw-told (accepted-ready a (Look p) e) p
-accepted-told a check e = checks-told (isSound (a .store))
+accepted-told a check e = checks-told (isSoundStore (a .store))
 
 outcome-told : (a : Areas) (c : Call) → Told (packed (outcomeOf a c .reply)) (outcomeOf a c .reply)
 unfolding outcomeOf

@@ -1,4 +1,4 @@
-// The door for C: the nine calls, each with N, the areas in the rulebook's order, then P, K, T. Each answers one u64.
+// The door for C: the nine calls, each with N, the areas in the rulebook's order, then P, K, T or P and the seat. Each answers one u64.
 ghost use mathlib.Core.Path.{_≡_};
 ghost use mathlib.Core.List.{[]};
 ghost use Rattle.rules.specs.Tables.{storeOf};
@@ -19,12 +19,13 @@ pub extern "C" fn pieces_start(
     leaders: &mut [u16],
     holds: &mut [u16],
     counts: &mut [u32],
+    register: &mut [u16],
 ) -> u64
     ensures { λ r. ⌜ Packs start
-        (areasOf (storeOf n (now (states .entry)) (now (links .entry)) (now (leaders .entry)) (now (holds .entry)) (now (counts .entry))) [] [])
-        r (areasOf (storeOf n (now (states .exit)) (now (links .exit)) (now (leaders .exit)) (now (holds .exit)) (now (counts .exit))) [] []) ⌝ }
+        (areasOf (storeOf n (now (states .entry)) (now (links .entry)) (now (leaders .entry)) (now (holds .entry)) (now (counts .entry)) (now (register .entry))) [] [])
+        r (areasOf (storeOf n (now (states .exit)) (now (links .exit)) (now (leaders .exit)) (now (holds .exit)) (now (counts .exit)) (now (register .exit))) [] []) ⌝ }
 {
-    packing::pack(store::start(n, states, links, leaders, holds, counts))
+    packing::pack(store::start(n, states, links, leaders, holds, counts, register))
 }
 
 // The lowest free number becomes a draft with four empty links; its number is the value.
@@ -36,14 +37,27 @@ pub extern "C" fn pieces_new(
     leaders: &[u16],
     holds: &[u16],
     counts: &[u32],
+    register: &[u16],
     list: &[u16],
     work: &mut [u32],
 ) -> u64
     ensures { λ r. ⌜ Packs (does New)
-        (areasOf (storeOf n (now (states .entry)) (now (links .entry)) (now (leaders .entry)) (now (holds .entry)) (now (counts .entry))) (now (list .entry)) (now (work .entry)))
-        r (areasOf (storeOf n (now (states .exit)) (now (links .entry)) (now (leaders .entry)) (now (holds .entry)) (now (counts .entry))) (now (list .entry)) (now (work .exit))) ⌝ }
+        (areasOf (storeOf n (now (states .entry)) (now (links .entry)) (now (leaders .entry)) (now (holds .entry)) (now (counts .entry)) (now (register .entry))) (now (list .entry))
+        (now (work .entry)))
+        r (areasOf (storeOf n (now (states .exit)) (now (links .entry)) (now (leaders .entry)) (now (holds .entry)) (now (counts .entry)) (now (register .entry))) (now (list .entry))
+        (now (work .exit))) ⌝ }
 {
-    packing::pack(store::new(n, states, links, leaders, holds, counts, list, work))
+    packing::pack(store::new(
+        n,
+        states,
+        links,
+        leaders,
+        holds,
+        counts,
+        register,
+        list,
+        work,
+    ))
 }
 
 // Draft P's link K becomes T (none, a draft, a frozen piece, P itself); then every frozen piece no longer kept becomes free.
@@ -55,6 +69,7 @@ pub extern "C" fn pieces_set(
     leaders: &mut [u16],
     holds: &[u16],
     counts: &mut [u32],
+    register: &[u16],
     list: &mut [u16],
     work: &mut [u32],
     p: u16,
@@ -62,8 +77,10 @@ pub extern "C" fn pieces_set(
     t: u16,
 ) -> u64
     ensures { λ r. ⌜ Packs (does (Set p k t))
-        (areasOf (storeOf n (now (states .entry)) (now (links .entry)) (now (leaders .entry)) (now (holds .entry)) (now (counts .entry))) (now (list .entry)) (now (work .entry)))
-        r (areasOf (storeOf n (now (states .exit)) (now (links .exit)) (now (leaders .exit)) (now (holds .entry)) (now (counts .exit))) (now (list .exit)) (now (work .exit))) ⌝ }
+        (areasOf (storeOf n (now (states .entry)) (now (links .entry)) (now (leaders .entry)) (now (holds .entry)) (now (counts .entry)) (now (register .entry))) (now (list .entry))
+        (now (work .entry)))
+        r (areasOf (storeOf n (now (states .exit)) (now (links .exit)) (now (leaders .exit)) (now (holds .entry)) (now (counts .exit)) (now (register .entry))) (now (list .exit))
+        (now (work .exit))) ⌝ }
 {
     packing::pack(store::set(
         n,
@@ -72,6 +89,7 @@ pub extern "C" fn pieces_set(
         leaders,
         holds,
         counts,
+        register,
         list,
         work,
         p,
@@ -80,7 +98,7 @@ pub extern "C" fn pieces_set(
     ))
 }
 
-// P and every draft it reaches become frozen; P gets one hold. If P is frozen already it only gets one more hold.
+// P and every draft it reaches become frozen; P gets one hold of the seat's. If P is frozen already it only gets one more.
 #[no_mangle]
 pub extern "C" fn pieces_freeze(
     n: usize,
@@ -89,18 +107,34 @@ pub extern "C" fn pieces_freeze(
     leaders: &mut [u16],
     holds: &mut [u16],
     counts: &mut [u32],
+    register: &mut [u16],
     list: &[u16],
     work: &mut [u32],
     p: u16,
+    seat: u16,
 ) -> u64
-    ensures { λ r. ⌜ Packs (does (Freeze p))
-        (areasOf (storeOf n (now (states .entry)) (now (links .entry)) (now (leaders .entry)) (now (holds .entry)) (now (counts .entry))) (now (list .entry)) (now (work .entry)))
-        r (areasOf (storeOf n (now (states .exit)) (now (links .entry)) (now (leaders .exit)) (now (holds .exit)) (now (counts .exit))) (now (list .entry)) (now (work .exit))) ⌝ }
+    ensures { λ r. ⌜ Packs (does (Freeze p seat))
+        (areasOf (storeOf n (now (states .entry)) (now (links .entry)) (now (leaders .entry)) (now (holds .entry)) (now (counts .entry)) (now (register .entry))) (now (list .entry))
+        (now (work .entry)))
+        r (areasOf (storeOf n (now (states .exit)) (now (links .entry)) (now (leaders .exit)) (now (holds .exit)) (now (counts .exit)) (now (register .exit))) (now (list .entry))
+        (now (work .exit))) ⌝ }
 {
-    packing::pack(store::freeze(n, states, links, leaders, holds, counts, list, work, p))
+    packing::pack(store::freeze(
+        n,
+        states,
+        links,
+        leaders,
+        holds,
+        counts,
+        register,
+        list,
+        work,
+        p,
+        seat,
+    ))
 }
 
-// One hold more on frozen P.
+// One hold more of the seat on frozen P.
 #[no_mangle]
 pub extern "C" fn pieces_acquire(
     n: usize,
@@ -109,18 +143,34 @@ pub extern "C" fn pieces_acquire(
     leaders: &[u16],
     holds: &mut [u16],
     counts: &mut [u32],
+    register: &mut [u16],
     list: &[u16],
     work: &mut [u32],
     p: u16,
+    seat: u16,
 ) -> u64
-    ensures { λ r. ⌜ Packs (does (Acquire p))
-        (areasOf (storeOf n (now (states .entry)) (now (links .entry)) (now (leaders .entry)) (now (holds .entry)) (now (counts .entry))) (now (list .entry)) (now (work .entry)))
-        r (areasOf (storeOf n (now (states .entry)) (now (links .entry)) (now (leaders .entry)) (now (holds .exit)) (now (counts .exit))) (now (list .entry)) (now (work .exit))) ⌝ }
+    ensures { λ r. ⌜ Packs (does (Acquire p seat))
+        (areasOf (storeOf n (now (states .entry)) (now (links .entry)) (now (leaders .entry)) (now (holds .entry)) (now (counts .entry)) (now (register .entry))) (now (list .entry))
+        (now (work .entry)))
+        r (areasOf (storeOf n (now (states .entry)) (now (links .entry)) (now (leaders .entry)) (now (holds .exit)) (now (counts .exit)) (now (register .exit))) (now (list .entry))
+        (now (work .exit))) ⌝ }
 {
-    packing::pack(store::acquire(n, states, links, leaders, holds, counts, list, work, p))
+    packing::pack(store::acquire(
+        n,
+        states,
+        links,
+        leaders,
+        holds,
+        counts,
+        register,
+        list,
+        work,
+        p,
+        seat,
+    ))
 }
 
-// One hold less on frozen P; then every frozen piece no longer kept becomes free.
+// One hold less of the seat on frozen P; then every frozen piece no longer kept becomes free.
 #[no_mangle]
 pub extern "C" fn pieces_release(
     n: usize,
@@ -129,15 +179,31 @@ pub extern "C" fn pieces_release(
     leaders: &mut [u16],
     holds: &mut [u16],
     counts: &mut [u32],
+    register: &mut [u16],
     list: &mut [u16],
     work: &mut [u32],
     p: u16,
+    seat: u16,
 ) -> u64
-    ensures { λ r. ⌜ Packs (does (Release p))
-        (areasOf (storeOf n (now (states .entry)) (now (links .entry)) (now (leaders .entry)) (now (holds .entry)) (now (counts .entry))) (now (list .entry)) (now (work .entry)))
-        r (areasOf (storeOf n (now (states .exit)) (now (links .exit)) (now (leaders .exit)) (now (holds .exit)) (now (counts .exit))) (now (list .exit)) (now (work .exit))) ⌝ }
+    ensures { λ r. ⌜ Packs (does (Release p seat))
+        (areasOf (storeOf n (now (states .entry)) (now (links .entry)) (now (leaders .entry)) (now (holds .entry)) (now (counts .entry)) (now (register .entry))) (now (list .entry))
+        (now (work .entry)))
+        r (areasOf (storeOf n (now (states .exit)) (now (links .exit)) (now (leaders .exit)) (now (holds .exit)) (now (counts .exit)) (now (register .exit))) (now (list .exit)) (now (work .exit)))
+        ⌝ }
 {
-    packing::pack(store::release(n, states, links, leaders, holds, counts, list, work, p))
+    packing::pack(store::release(
+        n,
+        states,
+        links,
+        leaders,
+        holds,
+        counts,
+        register,
+        list,
+        work,
+        p,
+        seat,
+    ))
 }
 
 // Draft P becomes free; then every frozen piece no longer kept becomes free.
@@ -149,15 +215,29 @@ pub extern "C" fn pieces_bin(
     leaders: &mut [u16],
     holds: &[u16],
     counts: &mut [u32],
+    register: &[u16],
     list: &mut [u16],
     work: &mut [u32],
     p: u16,
 ) -> u64
     ensures { λ r. ⌜ Packs (does (Bin p))
-        (areasOf (storeOf n (now (states .entry)) (now (links .entry)) (now (leaders .entry)) (now (holds .entry)) (now (counts .entry))) (now (list .entry)) (now (work .entry)))
-        r (areasOf (storeOf n (now (states .exit)) (now (links .exit)) (now (leaders .exit)) (now (holds .entry)) (now (counts .exit))) (now (list .exit)) (now (work .exit))) ⌝ }
+        (areasOf (storeOf n (now (states .entry)) (now (links .entry)) (now (leaders .entry)) (now (holds .entry)) (now (counts .entry)) (now (register .entry))) (now (list .entry))
+        (now (work .entry)))
+        r (areasOf (storeOf n (now (states .exit)) (now (links .exit)) (now (leaders .exit)) (now (holds .entry)) (now (counts .exit)) (now (register .entry))) (now (list .exit))
+        (now (work .exit))) ⌝ }
 {
-    packing::pack(store::bin(n, states, links, leaders, holds, counts, list, work, p))
+    packing::pack(store::bin(
+        n,
+        states,
+        links,
+        leaders,
+        holds,
+        counts,
+        register,
+        list,
+        work,
+        p,
+    ))
 }
 
 // State, leader, count of its group, holds of P; for a draft 1, none, 0, 0.
@@ -169,17 +249,18 @@ pub extern "C" fn pieces_look(
     leaders: &[u16],
     holds: &[u16],
     counts: &[u32],
+    register: &[u16],
     work: &mut [u32],
     p: u16,
 ) -> u64
     ensures { λ r. ⌜ Packs (does (Look p))
-        (areasOf (storeOf n (now (states .entry)) (now (links .entry)) (now (leaders .entry)) (now (holds .entry)) (now (counts .entry))) [] (now (work .entry)))
-        r (areasOf (storeOf n (now (states .entry)) (now (links .entry)) (now (leaders .entry)) (now (holds .entry)) (now (counts .entry))) [] (now (work .exit))) ⌝ }
+        (areasOf (storeOf n (now (states .entry)) (now (links .entry)) (now (leaders .entry)) (now (holds .entry)) (now (counts .entry)) (now (register .entry))) [] (now (work .entry)))
+        r (areasOf (storeOf n (now (states .entry)) (now (links .entry)) (now (leaders .entry)) (now (holds .entry)) (now (counts .entry)) (now (register .entry))) [] (now (work .exit))) ⌝ }
 {
-    packing::pack_seen(store::look(n, states, links, leaders, holds, counts, work, p))
+    packing::pack_seen(store::look(n, states, links, leaders, holds, counts, register, work, p))
 }
 
-// Yes exactly if the tables are sound.
+// Yes exactly if the store is sound.
 #[no_mangle]
 pub extern "C" fn pieces_check(
     n: usize,
@@ -188,13 +269,14 @@ pub extern "C" fn pieces_check(
     leaders: &[u16],
     holds: &[u16],
     counts: &[u32],
+    register: &[u16],
     work: &mut [u32],
 ) -> u64
     ensures { λ r. ⌜ Packs check
-        (areasOf (storeOf n (now (states .entry)) (now (links .entry)) (now (leaders .entry)) (now (holds .entry)) (now (counts .entry))) [] (now (work .entry)))
-        r (areasOf (storeOf n (now (states .entry)) (now (links .entry)) (now (leaders .entry)) (now (holds .entry)) (now (counts .entry))) [] (now (work .exit))) ⌝ }
+        (areasOf (storeOf n (now (states .entry)) (now (links .entry)) (now (leaders .entry)) (now (holds .entry)) (now (counts .entry)) (now (register .entry))) [] (now (work .entry)))
+        r (areasOf (storeOf n (now (states .entry)) (now (links .entry)) (now (leaders .entry)) (now (holds .entry)) (now (counts .entry)) (now (register .entry))) [] (now (work .exit))) ⌝ }
 {
-    packing::pack_checked(store::check(n, states, links, leaders, holds, counts, work))
+    packing::pack_checked(store::check(n, states, links, leaders, holds, counts, register, work))
 }
 
 // A trace lent in memory: the output's length, and the room holds the output, then zeros; or LONG or ROOM above 2^63.

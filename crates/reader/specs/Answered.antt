@@ -27,7 +27,7 @@ pub record Answered (n : ℕ) (s : Store) (line : Line) (out : List ℕ) (at : �
 -- a line that says a command
 pub does-answered : {c : Command} {s s′ : Store} {l l′ w w′ out out′ : List ℕ} {a : Reply} {at next from : ℕ}
     → Obeys c s l w a s′ l′ w′ from → Wrote out at (replyLine a l′) out′ next → next ≤ at + longest
-    → Answered (s .base .n) s (Does c) out at s′ l′ w′ out′ next from
+    → Answered (s .tables .base .n) s (Does c) out at s′ l′ w′ out′ next from
 unfolding storeAfter
 does-answered {c} {s} {l = l} {l′} {out = out} {out′} {a} {at} {next} o wrote few = record {
   store = store-after (o .did);

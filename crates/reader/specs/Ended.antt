@@ -7,7 +7,7 @@ use lib.Dec.{eqb}
 use lib.ListN.{getD}
 use Rattle.rules.specs.Tests.{_&_, onlyIf}
 use Rattle.rules.specs.Below.{sum}
-use Rattle.rules.specs.Tables.{Store, state, isDraft, isFrozen}
+use Rattle.rules.specs.Tables.{Tables, Store, state, isDraft, isFrozen}
 use Rattle.rules.specs.Trace.{endLine, howMany, leads}
 use Rattle.laws.specs.Below.{sum-next}
 use Rattle.obeying.specs.Obeyed.{Stands}
@@ -23,7 +23,7 @@ pub record Totalled (states leaders : List ℕ) (k drafts frozen groups : ℕ) :
 
 -- the last line is written: that of every store of capacity n with these states and leaders
 pub record LastLine (n : ℕ) (states leaders out : List ℕ) (at : ℕ) (out′ : List ℕ) (next : ℕ) : Type 0 where
-  pub wrote : (s : Store) → s .base .n ≡ n → s .base .states ≡ states → s .leaders ≡ leaders → Wrote out at (endLine s) out′ next
+  pub wrote : (s : Tables) → s .base .n ≡ n → s .base .states ≡ states → s .leaders ≡ leaders → Wrote out at (endLine s) out′ next
   pub few : next ≤ at + 64
 
 -- ---- laws
@@ -45,7 +45,7 @@ total-more {states} {leaders} {k} t a b c = record {
 }
 
 -- the totals of a store are those of its last line
-store-line : (s : Store) {d f g : ℕ} → Totalled (s .base .states) (s .leaders) (s .base .n) d f g → closingLine d f g ≡ endLine s
+store-line : (s : Tables) {d f g : ℕ} → Totalled (s .base .states) (s .leaders) (s .base .n) d f g → closingLine d f g ≡ endLine s
 store-line s t = ap₃ (t .drafts-are ∙ drafts) (t .frozen-are ∙ frozen) (t .groups-are ∙ groups) ∙ sym (end-line s)
   where
     n : ℕ
@@ -74,5 +74,5 @@ closing {out = out} {out′} {d} {f} {g} {at} {next} t wrote few = record {
 
 -- of a store that stands, its own last line
 pub last-line : {n : ℕ} {s : Store} {l w out out′ : List ℕ} {at next from : ℕ} → Stands n s l w from
-    → LastLine (s .base .n) (s .base .states) (s .leaders) out at out′ next → Wrote out at (endLine s) out′ next
-last-line {s = s} stands f = f .wrote s refl refl refl
+    → LastLine (s .tables .base .n) (s .tables .base .states) (s .tables .leaders) out at out′ next → Wrote out at (endLine (s .tables)) out′ next
+last-line {s = s} stands f = f .wrote (s .tables) refl refl refl

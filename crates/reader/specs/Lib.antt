@@ -1,4 +1,5 @@
 pub mod Answered
+pub mod Begun
 pub mod Lines
 pub mod Fed
 pub mod Ended

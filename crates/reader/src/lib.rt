@@ -48,17 +48,18 @@ fn act(
     leaders: &mut [u16],
     holds: &mut [u16],
     counts: &mut [u32],
+    register: &mut [u16],
     list: &mut [u16],
     work: &mut [u32],
     from: usize,
     out: &mut [u8],
     at: usize,
 ) -> Step
-    requires { ⌜ Stands n (storeOf n (now states) (now links) (now leaders) (now holds) (now counts)) (now list) (now work) from
+    requires { ⌜ Stands n (storeOf n (now states) (now links) (now leaders) (now holds) (now counts) (now register)) (now list) (now work) from
         × (at + longest ≤ length (now out)) ⌝ }
-    ensures { λ r. ⌜ Answered n (storeOf n (now (states .entry)) (now (links .entry)) (now (leaders .entry)) (now (holds .entry)) (now (counts .entry)))
+    ensures { λ r. ⌜ Answered n (storeOf n (now (states .entry)) (now (links .entry)) (now (leaders .entry)) (now (holds .entry)) (now (counts .entry)) (now (register .entry)))
         (Does command) (now (out .entry)) at
-        (storeOf n (now (states .exit)) (now (links .exit)) (now (leaders .exit)) (now (holds .exit)) (now (counts .exit)))
+        (storeOf n (now (states .exit)) (now (links .exit)) (now (leaders .exit)) (now (holds .exit)) (now (counts .exit)) (now (register .exit)))
         (now (list .exit)) (now (work .exit)) (now (out .exit)) (r .at) (r .from) ⌝ }
 {
     let done = obeying::obey(
@@ -68,6 +69,7 @@ fn act(
         leaders,
         holds,
         counts,
+        register,
         list,
         work,
         from,
@@ -180,16 +182,17 @@ pub fn feed(
     leaders: &mut [u16],
     holds: &mut [u16],
     counts: &mut [u32],
+    register: &mut [u16],
     list: &mut [u16],
     work: &mut [u32],
     mut from: usize,
     out: &mut [u8],
 ) -> Fed
-    requires { ⌜ Stands n (storeOf n (now states) (now links) (now leaders) (now holds) (now counts)) (now list) (now work) from
+    requires { ⌜ Stands n (storeOf n (now states) (now links) (now leaders) (now holds) (now counts) (now register)) (now list) (now work) from
         × Closed (now text) × (longest ≤ length (now out)) ⌝ }
-    ensures { λ r. ⌜ Feeding n (storeOf n (now (states .entry)) (now (links .entry)) (now (leaders .entry)) (now (holds .entry)) (now (counts .entry)))
+    ensures { λ r. ⌜ Feeding n (storeOf n (now (states .entry)) (now (links .entry)) (now (leaders .entry)) (now (holds .entry)) (now (counts .entry)) (now (register .entry)))
         (now (text .entry))
-        (storeOf n (now (states .exit)) (now (links .exit)) (now (leaders .exit)) (now (holds .exit)) (now (counts .exit)))
+        (storeOf n (now (states .exit)) (now (links .exit)) (now (leaders .exit)) (now (holds .exit)) (now (counts .exit)) (now (register .exit)))
         (now (list .exit)) (now (work .exit)) (now (out .exit)) (r .taken) (r .written) (r .from)
         × Stopped (now (text .entry)) (now (out .exit)) (r .taken) (r .written) ⌝ }
 {
@@ -214,6 +217,7 @@ pub fn feed(
                     leaders,
                     holds,
                     counts,
+                    register,
                     list,
                     work,
                     from,

@@ -16,7 +16,7 @@ use Rattle.rules.specs.declared.Line.the-variants.{Does, Bad}
 
 -- what the call of a line is lent: the trace's store, and list and work of their least lengths
 abbrev pub lentTo : Store → Command → Areas
-lentTo s c = areasOf s (pick (takesList (does c)) (replicate (s .base .n) 0) []) (replicate (8 * s .base .n) 0)
+lentTo s c = areasOf s (pick (takesList (does c)) (replicate (s .tables .base .n) 0) []) (replicate (8 * s .tables .base .n) 0)
 
 -- what comes of it
 unfoldable pub cameOf : Store → Command → Outcome

@@ -6,12 +6,12 @@ use Prim.Native.Nat.{ℕ, _*_, _≤_, _<_}
 use lib.Dec.{eqb, leb}
 use lib.ListN.{length, getD, replicate, drop}
 use Rattle.rules.specs.Tests.{_or_, _&_, pick}
-use Rattle.rules.specs.Limits.{most, none}
-use Rattle.rules.specs.Tables.{Base, Store, state, holdsOf, isSound, empty}
-use Rattle.rules.specs.Words.{Sized, Sound}
+use Rattle.rules.specs.Limits.{most, none, entries}
+use Rattle.rules.specs.Tables.{Base, Tables, Store, state, holdsOf, isSoundStore, empty}
+use Rattle.rules.specs.Words.{Sized, SizedStore, Sound, SoundStore}
 use Rattle.rules.specs.Commands.{isLook, pieceOf, Verdict, accepted, refused, firstOf, refusals, verdict, freedBy, valueOf, nextStore}
 use Rattle.rules.specs.declared.Refusal.{Refusal}
-use Rattle.rules.specs.declared.Refusal.the-variants.{Size, Unsound, Number, Free, State, Limit, NotHeld, Linked, Full, Long, Room}
+use Rattle.rules.specs.declared.Refusal.the-variants.{Size, Unsound, Number, Free, State, Limit, NotHeld, Linked, Full, Long, Room, Seat, NotYours, Register}
 use Rattle.rules.specs.declared.Command.{Command}
 use Rattle.rules.specs.declared.Answer.{Answer}
 use Rattle.rules.specs.declared.Answer.the-variants.{Done, Refused}
@@ -48,6 +48,9 @@ numberOf Linked = 8
 numberOf Full = 9
 numberOf Long = 10
 numberOf Room = 11
+numberOf Seat = 12
+numberOf NotYours = 13
+numberOf Register = 14
 
 pub record Values : Type 0 where
   pub refusal : ℕ
@@ -118,16 +121,16 @@ refusedCall r (does c) = refusedBy r c
 refusedCall r check = checked (Unchecked r)
 
 -- state, leader, count of its group, holds of P
-unfoldable pub seenAt : Store → ℕ → Seen
-seenAt s p = Piece (state (s .base) p) (getD (s .leaders) p 0) (getD (s .counts) (getD (s .leaders) p 0) 0) (holdsOf (s .base) p)
+unfoldable pub seenAt : Tables → ℕ → Seen
+seenAt t p = Piece (state (t .base) p) (getD (t .leaders) p 0) (getD (t .counts) (getD (t .leaders) p 0) 0) (holdsOf (t .base) p)
 
 -- its value and the number freed
 unfoldable pub doneBy : Base → Command → Answer
 doneBy b c = Done (valueOf b c) (length (freedBy b c))
 
 -- what an accepted command answers
-unfoldable pub acceptedBy : Store → Command → Reply
-acceptedBy s c = pick (isLook c) (saw (seenAt s (pieceOf c))) (answered (doneBy (s .base) c))
+unfoldable pub acceptedBy : Tables → Command → Reply
+acceptedBy t c = pick (isLook c) (saw (seenAt t (pieceOf c))) (answered (doneBy (t .base) c))
 
 -- ---- a command on sound tables
 
@@ -145,12 +148,12 @@ effect r s l = record { reply = r; store = s; list = l }
 
 -- a refused command leaves the store and the list unchanged
 unfoldable pub effected : Store → List ℕ → Command → Verdict → Effect
-effected s l c accepted = effect (acceptedBy s c) (nextStore s c) (listing (freedBy (s .base) c) l)
+effected s l c accepted = effect (acceptedBy (s .tables) c) (nextStore s c) (listing (freedBy (s .tables .base) c) l)
 effected s l c (refused r) = effect (refusedBy r c) s l
 
 -- what command c answers, and what it leaves in the store and the list
 unfoldable pub effectOf : Store → List ℕ → Command → Effect
-effectOf s l c = effected s l c (verdict (s .base) c)
+effectOf s l c = effected s l c (verdict s c)
 
 -- ---- a call on any areas
 
@@ -165,23 +168,27 @@ takesWork start = false
 takesWork (does c) = true
 takesWork check = true
 
--- N from 1 to 1,024, and each area of the store exactly its length
-unfoldable pub isSized : Store → Bool
-isSized s =
-    let n = s .base .n in
-    leb 1 n & leb n most & eqb (length (s .base .states)) n & eqb (length (s .base .links)) (4 * n) & eqb (length (s .leaders)) n
-    & eqb (length (s .base .holds)) n & eqb (length (s .counts)) n
+-- N from 1 to 1,024, and each table exactly its length
+unfoldable pub isSized : Tables → Bool
+isSized t =
+    let n = t .base .n in
+    leb 1 n & leb n most & eqb (length (t .base .states)) n & eqb (length (t .base .links)) (4 * n) & eqb (length (t .leaders)) n
+    & eqb (length (t .base .holds)) n & eqb (length (t .counts)) n
+
+-- and the register too
+unfoldable pub isSizedStore : Store → Bool
+isSizedStore s = isSized (s .tables) & eqb (length (s .register)) entries
 
 -- 1 SIZE does not apply: list has at least N entries and work at least 8N, of the areas the call takes
 unfoldable pub isLent : Areas → Call → Bool
 isLent a c =
-    isSized (a .store) & (not (takesList c) or leb (a .store .base .n) (length (a .list)))
-    & (not (takesWork c) or leb (8 * a .store .base .n) (length (a .work)))
+    isSizedStore (a .store) & (not (takesList c) or leb (a .store .tables .base .n) (length (a .list)))
+    & (not (takesWork c) or leb (8 * a .store .tables .base .n) (length (a .work)))
 
 -- 2 UNSOUND is not for start and check; the refusals after it are the command's
 unfoldable pub laterRefusals : Store → Call → List (Bool × Refusal)
 laterRefusals s start = []
-laterRefusals s (does c) = (not (isSound s), Unsound) ∷ refusals (s .base) c
+laterRefusals s (does c) = (not (isSoundStore s), Unsound) ∷ refusals s c
 laterRefusals s check = []
 
 -- all refusals, checked in this order
@@ -197,15 +204,15 @@ clear n w = replicate (8 * n) 0 ++ drop (8 * n) w
 
 -- work on return from a call that is not refused by SIZE
 unfoldable pub cleared : Areas → Call → Areas
-cleared a c = record { store = a .store; list = a .list; work = pick (takesWork c) (clear (a .store .base .n) (a .work)) (a .work) }
+cleared a c = record { store = a .store; list = a .list; work = pick (takesWork c) (clear (a .store .tables .base .n) (a .work)) (a .work) }
 
 -- what an accepted call answers and leaves
 unfoldable pub acceptedCall : Areas → Call → Outcome
-acceptedCall a start = outcome (answered fresh) (record { store = empty (a .store .base .n); list = a .list; work = a .work })
+acceptedCall a start = outcome (answered fresh) (record { store = empty (a .store .tables .base .n); list = a .list; work = a .work })
 acceptedCall a (does c) =
-    outcome (acceptedBy (a .store) c)
-    (record { store = nextStore (a .store) c; list = listing (freedBy (a .store .base) c) (a .list); work = a .work })
-acceptedCall a check = outcome (checked (pick (isSound (a .store)) Yes No)) a
+    outcome (acceptedBy (a .store .tables) c)
+    (record { store = nextStore (a .store) c; list = listing (freedBy (a .store .tables .base) c) (a .list); work = a .work })
+acceptedCall a check = outcome (checked (pick (isSoundStore (a .store)) Yes No)) a
 
 -- A refused call leaves the store and the list unchanged; work is unchanged after 1
 unfoldable pub ended : Areas → Call → Verdict → Outcome
@@ -220,13 +227,19 @@ outcomeOf a c = ended a c (judge a c)
 pub record Promise (c : Call) (before : Areas) (after : Outcome) : Type 0 where
   pub exact : after ≡ outcomeOf before c
 
--- ---- the inner door: a command's work on tables that are known to be sound
+-- ---- the inner door: a command's work on a store that is known to be sound
 
--- each area of the store has its length, and the tables are sound
-pub record Ready (s : Store) : Type 0 where
-  pub least : 1 ≤ s .base .n
-  pub sized : Sized s
-  pub sound : Sound s
+-- each table has its length, and the tables are sound
+pub record Ready (t : Tables) : Type 0 where
+  pub least : 1 ≤ t .base .n
+  pub sized : Sized t
+  pub sound : Sound t
+
+-- each area of the store has its length, and the store is sound
+pub record ReadyStore (s : Store) : Type 0 where
+  pub least : 1 ≤ s .tables .base .n
+  pub sized : SizedStore s
+  pub sound : SoundStore s
 
 -- work has at least 8N entries, of which the first 8N are 0
 pub record Clear (n : ℕ) (w : List ℕ) : Type 0 where

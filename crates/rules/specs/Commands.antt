@@ -1,15 +1,16 @@
 -- The rulebook's calls and refusals: the seven commands, on tables of their lengths.
 use mathlib.Core.Bool.{Bool, not}
-use mathlib.Core.List.{List, [], _∷_}
+use mathlib.Core.List.{List, [], _∷_, _++_}
 use Prim.Native.Nat.{ℕ, _+_, _*_, _-_, _/_}
 use lib.Dec.{eqb, ltb, leb}
 use lib.ListN.{getD, set}
 use Rattle.rules.specs.Tests.{_or_, _&_, pick}
-use Rattle.rules.specs.Limits.{mostHolds, none}
+use Rattle.rules.specs.Limits.{mostHolds, none, seats}
 use Rattle.rules.specs.Below.{every, any, table, lowest, list}
-use Rattle.rules.specs.Tables.{Base, Store, baseOf, state, isFree, isDraft, isFrozen, linkAt, holdsOf, reaches, isKept, finish}
+use Rattle.rules.specs.Register.{heldBy, isFull, oneMoreBy, oneLessBy}
+use Rattle.rules.specs.Tables.{Base, Tables, Store, baseOf, storeOn, state, isFree, isDraft, isFrozen, linkAt, holdsOf, reaches, isKept, finish}
 use Rattle.rules.specs.declared.Refusal.{Refusal}
-use Rattle.rules.specs.declared.Refusal.the-variants.{Number, Free, State, Limit, NotHeld, Linked, Full}
+use Rattle.rules.specs.declared.Refusal.the-variants.{Seat, Number, Free, State, Limit, Register, NotHeld, NotYours, Linked, Full}
 use Rattle.rules.specs.declared.Command.{Command}
 use Rattle.rules.specs.declared.Command.the-variants.{New, Set, Freeze, Acquire, Release, Bin, Look}
 
@@ -28,9 +29,9 @@ firstOf (r ∷ rs) = pick (r .0) (refused (r .1)) (firstOf rs)
 abbrev pub placeOf : Command → ℕ
 placeOf New = 0
 placeOf (Set p k t) = 1
-placeOf (Freeze p) = 2
-placeOf (Acquire p) = 3
-placeOf (Release p) = 4
+placeOf (Freeze p i) = 2
+placeOf (Acquire p i) = 3
+placeOf (Release p i) = 4
 placeOf (Bin p) = 5
 placeOf (Look p) = 6
 
@@ -38,9 +39,9 @@ placeOf (Look p) = 6
 abbrev pub pieceOf : Command → ℕ
 pieceOf New = none
 pieceOf (Set p k t) = p
-pieceOf (Freeze p) = p
-pieceOf (Acquire p) = p
-pieceOf (Release p) = p
+pieceOf (Freeze p i) = p
+pieceOf (Acquire p i) = p
+pieceOf (Release p i) = p
 pieceOf (Bin p) = p
 pieceOf (Look p) = p
 
@@ -65,7 +66,21 @@ isBin c = eqb (placeOf c) 5
 abbrev pub isLook : Command → Bool
 isLook c = eqb (placeOf c) 6
 
--- ---- what is refused
+-- S, and 0 for a command that names none
+abbrev pub seatOf : Command → ℕ
+seatOf New = 0
+seatOf (Set p k t) = 0
+seatOf (Freeze p i) = i
+seatOf (Acquire p i) = i
+seatOf (Release p i) = i
+seatOf (Bin p) = 0
+seatOf (Look p) = 0
+
+-- freeze, acquire and release name a seat
+abbrev pub namesSeat : Command → Bool
+namesSeat c = isFreeze c or isAcquire c or isRelease c
+
+-- ---- what is refused by what the tables hold
 
 module _ (b : Base) where
   -- 3 NUMBER: P is N or more, K above 3, or T neither none nor below N
@@ -99,14 +114,53 @@ module _ (b : Base) where
   noneFree = every (λ p. not (isFree b p)) (b .n)
 
   -- the refusals of each command on sound tables, checked in this order; 5 STATE: set or bin of a frozen piece, acquire or release of a draft
-  unfoldable pub refusals : Command → List (Bool × Refusal)
-  refusals New = (noneFree, Full) ∷ []
-  refusals (Set p k t) = (noPiece p or noPlace k or noTarget t, Number) ∷ (isFree b p or freeTarget t, Free) ∷ (isFrozen b p, State) ∷ []
-  refusals (Freeze p) = (noPiece p, Number) ∷ (isFree b p, Free) ∷ (atLimit p, Limit) ∷ []
-  refusals (Acquire p) = (noPiece p, Number) ∷ (isFree b p, Free) ∷ (isDraft b p, State) ∷ (atLimit p, Limit) ∷ []
-  refusals (Release p) = (noPiece p, Number) ∷ (isFree b p, Free) ∷ (isDraft b p, State) ∷ (notHeld p, NotHeld) ∷ []
-  refusals (Bin p) = (noPiece p, Number) ∷ (isFree b p, Free) ∷ (isFrozen b p, State) ∷ (isLinked p, Linked) ∷ []
-  refusals (Look p) = (noPiece p, Number) ∷ (isFree b p, Free) ∷ []
+  unfoldable pub tableRefusals : Command → List (Bool × Refusal)
+  tableRefusals New = (noneFree, Full) ∷ []
+  tableRefusals (Set p k t) = (noPiece p or noPlace k or noTarget t, Number) ∷ (isFree b p or freeTarget t, Free) ∷ (isFrozen b p, State) ∷ []
+  tableRefusals (Freeze p i) = (noPiece p, Number) ∷ (isFree b p, Free) ∷ (atLimit p, Limit) ∷ []
+  tableRefusals (Acquire p i) = (noPiece p, Number) ∷ (isFree b p, Free) ∷ (isDraft b p, State) ∷ (atLimit p, Limit) ∷ []
+  tableRefusals (Release p i) = (noPiece p, Number) ∷ (isFree b p, Free) ∷ (isDraft b p, State) ∷ (notHeld p, NotHeld) ∷ []
+  tableRefusals (Bin p) = (noPiece p, Number) ∷ (isFree b p, Free) ∷ (isFrozen b p, State) ∷ (isLinked p, Linked) ∷ []
+  tableRefusals (Look p) = (noPiece p, Number) ∷ (isFree b p, Free) ∷ []
+
+-- ---- what is refused by the seat and by the register
+
+-- 12 SEAT: the seat is above 31
+abbrev pub noSeat : ℕ → Bool
+noSeat i = not (ltb i seats)
+
+module _ (register : List ℕ) where
+  -- 14 REGISTER: a hold of seat i on piece p would need a line, and none is free
+  unfoldable pub noLine : ℕ → ℕ → Bool
+  noLine i p = eqb (heldBy register i p) 0 & isFull register
+
+  -- 13 NOTYOURS: the piece has holds (else 7 NOTHELD is given), but none of this seat's
+  unfoldable pub notYours : ℕ → ℕ → Bool
+  notYours i p = eqb (heldBy register i p) 0
+
+-- before the tables' refusals
+unfoldable pub seatRefusals : Command → List (Bool × Refusal)
+seatRefusals New = []
+seatRefusals (Set p k t) = []
+seatRefusals (Freeze p i) = (noSeat i, Seat) ∷ []
+seatRefusals (Acquire p i) = (noSeat i, Seat) ∷ []
+seatRefusals (Release p i) = (noSeat i, Seat) ∷ []
+seatRefusals (Bin p) = []
+seatRefusals (Look p) = []
+
+-- and after them
+unfoldable pub registerRefusals : List ℕ → Command → List (Bool × Refusal)
+registerRefusals l New = []
+registerRefusals l (Set p k t) = []
+registerRefusals l (Freeze p i) = (noLine l i p, Register) ∷ []
+registerRefusals l (Acquire p i) = (noLine l i p, Register) ∷ []
+registerRefusals l (Release p i) = (notYours l i p, NotYours) ∷ []
+registerRefusals l (Bin p) = []
+registerRefusals l (Look p) = []
+
+-- the refusals of each command on a sound store, checked in this order
+unfoldable pub refusals : Store → Command → List (Bool × Refusal)
+refusals s c = seatRefusals c ++ (tableRefusals (s .tables .base) c ++ registerRefusals (s .register) c)
 
 module _ (b : Base) where
   -- ---- what changes
@@ -159,9 +213,9 @@ module _ (b : Base) where
   unfoldable pub edit : Command → Base
   edit New = withStates (set (b .states) firstFree 1)
   edit (Set p k t) = withLinks (set (b .links) (4 * p + k) t)
-  edit (Freeze p) = pick (isFrozen b p) (oneMore p) (freezeFirst p)
-  edit (Acquire p) = oneMore p
-  edit (Release p) = oneLess p
+  edit (Freeze p i) = pick (isFrozen b p) (oneMore p) (freezeFirst p)
+  edit (Acquire p i) = oneMore p
+  edit (Release p i) = oneLess p
   edit (Bin p) = freeAll (eqb p)
   edit (Look p) = b
 
@@ -181,13 +235,27 @@ after b c = let e = edit b c in pick (settles c) (freeAll e (gone e)) e
 unfoldable pub valueOf : Base → Command → ℕ
 valueOf b c = pick (isNew c) (firstFree b) none
 
--- the verdict on sound tables
-unfoldable pub verdict : Base → Command → Verdict
-verdict b c = firstOf (refusals b c)
+-- the verdict on a sound store
+unfoldable pub verdict : Store → Command → Verdict
+verdict s c = firstOf (refusals s c)
+
+-- the tables after an accepted command
+unfoldable pub nextTables : Tables → Command → Tables
+nextTables t c = finish (after (t .base) c)
+
+-- the register after an accepted command: freeze and acquire note one hold more of the seat, release one less
+unfoldable pub noted : List ℕ → Command → List ℕ
+noted l New = l
+noted l (Set p k t) = l
+noted l (Freeze p i) = oneMoreBy l i p
+noted l (Acquire p i) = oneMoreBy l i p
+noted l (Release p i) = oneLessBy l i p
+noted l (Bin p) = l
+noted l (Look p) = l
 
 -- the store after an accepted command
 unfoldable pub nextStore : Store → Command → Store
-nextStore s c = finish (after (s .base) c)
+nextStore s c = storeOn (nextTables (s .tables) c) (noted (s .register) c)
 
 -- the store after a command: a refused one leaves it unchanged
 unfoldable pub settled : Verdict → Store → Command → Store
@@ -195,4 +263,4 @@ settled accepted s c = nextStore s c
 settled (refused r) s c = s
 
 unfoldable pub stepTo : Store → Command → Store
-stepTo s c = settled (verdict (s .base) c) s c
+stepTo s c = settled (verdict s c) s c

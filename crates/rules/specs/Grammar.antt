@@ -33,18 +33,24 @@ examples =
     ∷ right "s 00000 3 -" (Set 0 3 none)
     ∷ right "s 0 3 65535" (Set 0 3 none)
     ∷ right "s 1 65535 2" (Set 1 65535 2)
-    ∷ right "f 00007" (Freeze 7)
-    ∷ right "f 65535" (Freeze 65535)
-    ∷ right "a 9" (Acquire 9)
-    ∷ right "r 10" (Release 10)
+    ∷ right "f 00007" (Freeze 7 0)
+    ∷ right "f 65535" (Freeze 65535 0)
+    ∷ right "a 9" (Acquire 9 0)
+    ∷ right "r 10" (Release 10 0)
     ∷ right "b 0" (Bin 0)
     ∷ right "l 1024" (Look 1024)
+    -- with a seat, which may be any number
+    ∷ right "f 7 31" (Freeze 7 31)
+    ∷ right "a 9 00002" (Acquire 9 2)
+    ∷ right "r 10 65535" (Release 10 65535)
     -- an empty line, spaces before, behind and twice
     ∷ wrong ""
     ∷ wrong "n "
     ∷ wrong " n"
     ∷ wrong "f  0"
     ∷ wrong "f 0 "
+    ∷ wrong "f 0  1"
+    ∷ wrong "f 0 1 "
     ∷ wrong "s 0 0 - "
     -- cut lines, and words too many
     ∷ wrong "f"
@@ -52,13 +58,19 @@ examples =
     ∷ wrong "s 0 0"
     ∷ wrong "n1"
     ∷ wrong "s 0 0 0 0"
+    ∷ wrong "f 0 1 2"
+    ∷ wrong "b 0 1"
+    ∷ wrong "l 0 1"
     -- six digits, 65536, signs and letters in numbers
     ∷ wrong "f 000001"
     ∷ wrong "f 65536"
+    ∷ wrong "f 0 65536"
+    ∷ wrong "f 0 000001"
     ∷ wrong "f +1"
     ∷ wrong "f 1a"
     -- `-` stands for T alone
     ∷ wrong "f -"
+    ∷ wrong "f 0 -"
     ∷ wrong "s - 0 1"
     ∷ wrong "s 0 - 1"
     ∷ wrong "s 0 0 -1"

@@ -8,9 +8,9 @@ use lib.Dec.{T, eqb}
 use lib.ListN.{length, take, drop}
 use Rattle.rules.specs.Tests.{_or_, _&_, pick, onlyIf}
 use Rattle.rules.specs.Lists.{Among, Ascending}
-use Rattle.rules.specs.Tables.{Base, Store, state, empty}
+use Rattle.rules.specs.Tables.{Base, Store, state, emptyTables, empty}
 use Rattle.rules.specs.Words.{Draft, Frozen, Live, Reaches}
-use Rattle.rules.specs.Commands.{pieceOf, isNew, isFreeze, isAcquire, isRelease, edit}
+use Rattle.rules.specs.Commands.{pieceOf, seatOf, isNew, isFreeze, isAcquire, isRelease, edit}
 use Rattle.rules.specs.Calls.{Call, start, does, check, Areas, Reply, answered, saw, checked, Outcome, Promise}
 use Rattle.rules.specs.declared.Command.{Command}
 use Rattle.rules.specs.declared.Command.the-variants.{Bin}
@@ -103,6 +103,25 @@ taken p h = often (acceptedOf (takesFrom p)) (since p h)
 abbrev pub Held : List Event → ℕ → Type 0
 Held h p = taken p h < added p h
 
+-- ---- the same by seat
+
+-- a freeze or an acquire of seat i naming p
+unfoldable pub addsBy : ℕ → ℕ → Command → Bool
+addsBy i p c = (isFreeze c or isAcquire c) & (eqb (seatOf c) i & eqb (pieceOf c) p)
+
+-- a release of seat i naming p
+unfoldable pub takesBy : ℕ → ℕ → Command → Bool
+takesBy i p c = isRelease c & (eqb (seatOf c) i & eqb (pieceOf c) p)
+
+unfoldable pub addedBy : ℕ → ℕ → List Event → ℕ
+addedBy i p h = often (acceptedOf (addsBy i p)) (since p h)
+
+unfoldable pub takenBy : ℕ → ℕ → List Event → ℕ
+takenBy i p h = often (acceptedOf (takesBy i p)) (since p h)
+
+abbrev pub HeldBy : List Event → ℕ → ℕ → Type 0
+HeldBy h i p = takenBy i p h < addedBy i p h
+
 -- ---- what a call lists and frees
 
 -- the number freed
@@ -124,7 +143,7 @@ pub record Reached (h : List Event) (b : Base) (p : ℕ) : Type 0 where
 
 -- states, links and holds changed as the call says
 unfoldable pub changed : Base → Call → Base
-changed b start = empty (b .n) .base
+changed b start = emptyTables (b .n) .base
 changed b (does c) = edit b c
 changed b check = b
 
@@ -135,7 +154,7 @@ Binned c p = c ≡ does (Bin p)
 -- Each accepted call lists exactly those frozen pieces that no chain of links reaches any more from a draft or from a held piece, each once, lowest
 -- number first, and besides a binned draft those alone are freed
 pub record Listing (h : List Event) (c : Call) (lent : Areas) (o : Outcome) : Type 0 where
-  pub exact : (p : ℕ) → Among p (listed o) ↔ (Frozen (changed (lent .store .base) c) p × (¬ Reached (event c o ∷ h) (changed (lent .store .base) c) p))
+  pub exact : (p : ℕ) → Among p (listed o) ↔ (Frozen (changed (lent .store .tables .base) c) p × (¬ Reached (event c o ∷ h) (changed (lent .store .tables .base) c) p))
   pub ascending : Ascending (listed o)
   pub rest : o .areas .list ≡ listed o ++ drop (length (listed o)) (lent .list)
-  pub alone : (c ≡ start → ⊥) → (p : ℕ) → (Live (lent .store .base) p × (state (o .areas .store .base) p ≡ 0)) ↔ (Among p (listed o) ⊎ Binned c p)
+  pub alone : (c ≡ start → ⊥) → (p : ℕ) → (Live (lent .store .tables .base) p × (state (o .areas .store .tables .base) p ≡ 0)) ↔ (Among p (listed o) ⊎ Binned c p)

@@ -3,6 +3,7 @@ pub mod Tests
 pub mod Limits
 pub mod Below
 pub mod Lists
+pub mod Register
 pub mod Reach
 pub mod Tables
 pub mod Words

@@ -16,3 +16,15 @@ mostTrace = 65536
 -- the mark for none is 65,535
 abbrev pub none : ℕ
 none = 65535
+
+-- seats 0 to 31
+abbrev pub seats : ℕ
+seats = 32
+
+-- 1,024 lines of the register
+abbrev pub lines : ℕ
+lines = 1024
+
+-- of three entries each
+abbrev pub entries : ℕ
+entries = 3072

@@ -1,11 +1,12 @@
--- The rulebook's tables: what the tables hold, and what sound tables are.
+-- The rulebook's tables: what the tables and the register hold, and what a sound store is.
 use mathlib.Core.Bool.{Bool, not}
 use mathlib.Core.List.{List}
 use Prim.Native.Nat.{ℕ, _+_, _*_}
 use lib.Dec.{eqb, ltb, leb}
 use lib.ListN.{getD, replicate}
 use Rattle.rules.specs.Tests.{_or_, _&_, pick, onlyIf}
-use Rattle.rules.specs.Limits.{mostHolds, none}
+use Rattle.rules.specs.Limits.{mostHolds, none, entries}
+use Rattle.rules.specs.Register.{isRight, heldIn}
 use Rattle.rules.specs.Reach.{reachb}
 use Rattle.rules.specs.Below.{every, any, sum, table, lowest}
 
@@ -17,22 +18,35 @@ pub record Base : Type 0 where
   pub holds : List ℕ
 
 -- the five tables of the store
-pub record Store : Type 0 where
+pub record Tables : Type 0 where
   pub base : Base
   pub leaders : List ℕ
   pub counts : List ℕ
+
+-- the store: its tables, and the register of who holds what
+pub record Store : Type 0 where
+  pub tables : Tables
+  pub register : List ℕ
 
 -- what commands tell the store, at capacity n
 abbrev pub baseOf : ℕ → List ℕ → List ℕ → List ℕ → Base
 baseOf n states links holds = record { n = n; states = states; links = links; holds = holds }
 
--- the store of what is told, with what follows from it
-abbrev pub storeOn : Base → List ℕ → List ℕ → Store
-storeOn base leaders counts = record { base = base; leaders = leaders; counts = counts }
+-- the tables of what is told, with what follows from it
+abbrev pub tablesOn : Base → List ℕ → List ℕ → Tables
+tablesOn base leaders counts = record { base = base; leaders = leaders; counts = counts }
 
 -- the tables in the rulebook's order
-abbrev pub storeOf : ℕ → List ℕ → List ℕ → List ℕ → List ℕ → List ℕ → Store
-storeOf n states links leaders holds counts = storeOn (baseOf n states links holds) leaders counts
+abbrev pub tablesOf : ℕ → List ℕ → List ℕ → List ℕ → List ℕ → List ℕ → Tables
+tablesOf n states links leaders holds counts = tablesOn (baseOf n states links holds) leaders counts
+
+-- the tables with a register beside them
+abbrev pub storeOn : Tables → List ℕ → Store
+storeOn tables register = record { tables = tables; register = register }
+
+-- the store's areas in the rulebook's order
+abbrev pub storeOf : ℕ → List ℕ → List ℕ → List ℕ → List ℕ → List ℕ → List ℕ → Store
+storeOf n states links leaders holds counts register = storeOn (tablesOf n states links leaders holds counts) register
 
 module _ (b : Base) where
   unfoldable pub state : ℕ → ℕ
@@ -93,9 +107,9 @@ module _ (b : Base) where
   unfoldable pub countEntry : ℕ → ℕ
   countEntry p = pick (isFrozen p & eqb (leaderOf p) p) (countOf p) 0
 
-  -- the store with these states, links and holds
-  unfoldable pub finish : Store
-  finish = storeOn b (table leaderEntry (b .n)) (table countEntry (b .n))
+  -- the tables with these states, links and holds
+  unfoldable pub finish : Tables
+  finish = tablesOn b (table leaderEntry (b .n)) (table countEntry (b .n))
 
   -- f at each of the four links of p
   unfoldable pub allFour : ℕ → (ℕ → Bool) → Bool
@@ -116,19 +130,31 @@ module _ (b : Base) where
   unfoldable pub well : ℕ → Bool
   well p = wellFree p or wellDraft p or wellFrozen p
 
-module _ (s : Store) where
+module _ (t : Tables) where
   abbrev bs : Base
-  bs = s .base
+  bs = t .base
 
   -- Sound, of one piece: its state, links and holds, its leader, its count, and kept where it is frozen
   unfoldable pub soundAt : ℕ → Bool
   soundAt p =
-      well bs p & eqb (getD (s .leaders) p 0) (leaderEntry bs p) & eqb (getD (s .counts) p 0) (countEntry bs p)
+      well bs p & eqb (getD (t .leaders) p 0) (leaderEntry bs p) & eqb (getD (t .counts) p 0) (countEntry bs p)
       & (not (isFrozen bs p) or isKept bs p)
 
   unfoldable pub isSound : Bool
   isSound = every soundAt (bs .n)
 
--- In an empty store all links are 65,535, all leaders too, and everything else is 0
+-- the holds of every piece are the sum over the register
+unfoldable pub sumsRight : Base → List ℕ → Bool
+sumsRight b l = every (λ p. eqb (holdsOf b p) (heldIn l p)) (b .n)
+
+-- Sound, of the store: its tables are, its register is right, and holds are the sum over it
+unfoldable pub isSoundStore : Store → Bool
+isSoundStore s = let b = s .tables .base in isSound (s .tables) & isRight (b .n) (s .register) & sumsRight b (s .register)
+
+-- In empty tables all links are 65,535, all leaders too, and everything else is 0
+unfoldable pub emptyTables : ℕ → Tables
+emptyTables n = tablesOf n (replicate n 0) (replicate (4 * n) none) (replicate n none) (replicate n 0) (replicate n 0)
+
+-- and in an empty store every line of the register is unused
 unfoldable pub empty : ℕ → Store
-empty n = storeOf n (replicate n 0) (replicate (4 * n) none) (replicate n none) (replicate n 0) (replicate n 0)
+empty n = storeOn (emptyTables n) (replicate entries 0)

@@ -7,7 +7,7 @@ use lib.ListN.{length, getD, take, drop, replicate}
 use Rattle.rules.specs.Tests.{_or_, _&_, pick, onlyIf}
 use Rattle.rules.specs.Limits.{most, mostTrace, none}
 use Rattle.rules.specs.Below.{sum}
-use Rattle.rules.specs.Tables.{Store, isDraft, isFrozen, empty}
+use Rattle.rules.specs.Tables.{Tables, Store, isDraft, isFrozen, empty}
 use Rattle.rules.specs.Commands.{isLook, pieceOf, Verdict, accepted, refused, verdict, freedBy, valueOf, stepTo}
 use Rattle.rules.specs.Calls.{numberOf, seenAt}
 use Rattle.rules.specs.declared.Refusal.the-variants.{Long, Room}
@@ -82,10 +82,24 @@ abbrev pub ends : Command → List ℕ → Line
 ends c [] = Does c
 ends c (b ∷ bs) = Bad
 
--- `f P`, `a P`, `r P`, `b P`, `l P`
+-- `b P`, `l P`
 abbrev pub naming : (ℕ → Command) → Word → Line
 naming c bad = Bad
 naming c (is p rest) = ends (c p) rest
+
+-- `f P S`, `a P S`, `r P S`
+abbrev pub seatedBy : (ℕ → ℕ → Command) → ℕ → Word → Line
+seatedBy c p bad = Bad
+seatedBy c p (is i rest) = ends (c p i) rest
+
+-- `f P`, `a P`, `r P`: without S seat 0 acts
+abbrev pub seatedOr : (ℕ → ℕ → Command) → ℕ → List ℕ → Line
+seatedOr c p [] = Does (c p 0)
+seatedOr c p (b ∷ bs) = seatedBy c p (word (b ∷ bs))
+
+abbrev pub seated : (ℕ → ℕ → Command) → Word → Line
+seated c bad = Bad
+seated c (is p rest) = seatedOr c p rest
 
 -- `s P K T`
 abbrev pub setTo : ℕ → ℕ → Word → Line
@@ -105,9 +119,9 @@ unfoldable pub chosen : ℕ → List ℕ → Line
 chosen b rest =
     pick (eqb b 110) (ends New rest)
     (pick (eqb b 115) (setPiece (word rest))
-    (pick (eqb b 102) (naming Freeze (word rest))
-    (pick (eqb b 97) (naming Acquire (word rest))
-    (pick (eqb b 114) (naming Release (word rest))
+    (pick (eqb b 102) (seated Freeze (word rest))
+    (pick (eqb b 97) (seated Acquire (word rest))
+    (pick (eqb b 114) (seated Release (word rest))
     (pick (eqb b 98) (naming Bin (word rest))
     (pick (eqb b 108) (naming Look (word rest)) Bad))))))
 
@@ -151,16 +165,16 @@ lookLine (Unseen r) = answerLine (numberOf r) none []
 abbrev pub badLine : List ℕ
 badLine = 120 ∷ 10 ∷ []
 
-unfoldable pub acceptedLine : Store → Command → List ℕ
-acceptedLine s c = pick (isLook c) (lookLine (seenAt s (pieceOf c))) (answerLine 0 (valueOf (s .base) c) (freedBy (s .base) c))
+unfoldable pub acceptedLine : Tables → Command → List ℕ
+acceptedLine t c = pick (isLook c) (lookLine (seenAt t (pieceOf c))) (answerLine 0 (valueOf (t .base) c) (freedBy (t .base) c))
 
-unfoldable pub lineBy : Store → Command → Verdict → List ℕ
-lineBy s c accepted = acceptedLine s c
-lineBy s c (refused r) = answerLine (numberOf r) none []
+unfoldable pub lineBy : Tables → Command → Verdict → List ℕ
+lineBy t c accepted = acceptedLine t c
+lineBy t c (refused r) = answerLine (numberOf r) none []
 
 -- Each line gives one line ended by byte 10
 unfoldable pub answerTo : Store → Line → List ℕ
-answerTo s (Does c) = lineBy s c (verdict (s .base) c)
+answerTo s (Does c) = lineBy (s .tables) c (verdict s c)
 answerTo s Bad = badLine
 
 -- a bad line changes nothing
@@ -175,17 +189,17 @@ unfoldable pub howMany : (ℕ → Bool) → ℕ → ℕ
 howMany f n = sum (λ p. onlyIf (f p) 1) n
 
 -- p leads a group
-unfoldable pub leads : Store → ℕ → Bool
-leads s p = isFrozen (s .base) p & eqb (getD (s .leaders) p 0) p
+unfoldable pub leads : Tables → ℕ → Bool
+leads t p = isFrozen (t .base) p & eqb (getD (t .leaders) p 0) p
 
 -- At the end: `=`, drafts, frozen pieces, groups
-unfoldable pub endLine : Store → List ℕ
-endLine s =
-    61 ∷ (spaced (howMany (isDraft (s .base)) (s .base .n) ∷ howMany (isFrozen (s .base)) (s .base .n) ∷ howMany (leads s) (s .base .n) ∷ []) ++ (10 ∷ []))
+unfoldable pub endLine : Tables → List ℕ
+endLine t =
+    61 ∷ (spaced (howMany (isDraft (t .base)) (t .base .n) ∷ howMany (isFrozen (t .base)) (t .base .n) ∷ howMany (leads t) (t .base .n) ∷ []) ++ (10 ∷ []))
 
 -- the output of lines from store s on
 unfoldable pub outputOf : Store → List (List ℕ) → List ℕ
-outputOf s [] = endLine s
+outputOf s [] = endLine (s .tables)
 outputOf s (l ∷ ls) = answerTo s (says l) ++ outputOf (storeAfter s (says l)) ls
 
 -- the output of a trace on a store that starts empty at capacity n

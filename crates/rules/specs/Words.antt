@@ -3,9 +3,10 @@ use mathlib.Core.Path.{_≡_}
 use mathlib.Core.Logic.{_⊎_, _≢_}
 use Prim.Native.Nat.{ℕ, _*_, _≤_, _<_}
 use lib.ListN.{length, getD}
-use Rattle.rules.specs.Limits.{most, mostHolds, none}
+use Rattle.rules.specs.Limits.{most, mostHolds, none, entries}
+use Rattle.rules.specs.Register.{Right, heldIn}
 use Rattle.rules.specs.Reach.{Reach}
-use Rattle.rules.specs.Tables.{Base, Store, state, linkAt, holdsOf, countOf}
+use Rattle.rules.specs.Tables.{Base, Tables, Store, state, linkAt, holdsOf, countOf}
 
 module _ (b : Base) where
   pub record Draft (p : ℕ) : Type 0 where
@@ -67,26 +68,32 @@ module _ (b : Base) where
     wdraft : DraftWell p → Well p
     wfrozen : FrozenWell p → Well p
 
-module _ (s : Store) where
+module _ (t : Tables) where
   abbrev pub leaderAt : ℕ → ℕ
-  leaderAt p = getD (s .leaders) p 0
+  leaderAt p = getD (t .leaders) p 0
 
   abbrev pub countAt : ℕ → ℕ
-  countAt p = getD (s .counts) p 0
+  countAt p = getD (t .counts) p 0
 
   -- at a leader: the group's count; else 0
   pub record CountRight (p : ℕ) : Type 0 where
-    pub leads : leaderAt p ≡ p → countAt p ≡ countOf (s .base) p
+    pub leads : leaderAt p ≡ p → countAt p ≡ countOf (t .base) p
     pub others : leaderAt p ≢ p → countAt p ≡ 0
 
   -- no leader and 0 count but for a frozen piece, which has leader and count as defined and is kept
   pub data Piece (p : ℕ) : Type 0 where
-    free : FreeWell (s .base) p → leaderAt p ≡ none → countAt p ≡ 0 → Piece p
-    draft : DraftWell (s .base) p → leaderAt p ≡ none → countAt p ≡ 0 → Piece p
-    frozen : FrozenWell (s .base) p → Leader (s .base) p (leaderAt p) → CountRight p → Kept (s .base) p → Piece p
+    free : FreeWell (t .base) p → leaderAt p ≡ none → countAt p ≡ 0 → Piece p
+    draft : DraftWell (t .base) p → leaderAt p ≡ none → countAt p ≡ 0 → Piece p
+    frozen : FrozenWell (t .base) p → Leader (t .base) p (leaderAt p) → CountRight p → Kept (t .base) p → Piece p
 
   abbrev pub Sound : Type 0
-  Sound = (p : ℕ) → p < s .base .n → Piece p
+  Sound = (p : ℕ) → p < t .base .n → Piece p
+
+-- Sound, of the store: its tables are, its register is right, and holds are the sum over it
+pub record SoundStore (s : Store) : Type 0 where
+  pub tables : Sound (s .tables)
+  pub register : Right (s .tables .base .n) (s .register)
+  pub sums : (p : ℕ) → p < s .tables .base .n → holdsOf (s .tables .base) p ≡ heldIn (s .register) p
 
 -- each area of the store has exactly its length
 pub record SizedBase (b : Base) : Type 0 where
@@ -95,7 +102,11 @@ pub record SizedBase (b : Base) : Type 0 where
   pub holds : length (b .holds) ≡ b .n
   pub most : b .n ≤ most
 
-pub record Sized (s : Store) : Type 0 where
-  pub base : SizedBase (s .base)
-  pub leaders : length (s .leaders) ≡ s .base .n
-  pub counts : length (s .counts) ≡ s .base .n
+pub record Sized (t : Tables) : Type 0 where
+  pub base : SizedBase (t .base)
+  pub leaders : length (t .leaders) ≡ t .base .n
+  pub counts : length (t .counts) ≡ t .base .n
+
+pub record SizedStore (s : Store) : Type 0 where
+  pub tables : Sized (s .tables)
+  pub register : length (s .register) ≡ entries

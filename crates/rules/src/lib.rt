@@ -15,6 +15,14 @@ impl Store {
     // The most holds of a piece.
     pub const HOLDS: u16 = 1000;
 
+    // The seats: 0 to 31.
+    pub const SEATS: u16 = 32;
+
+    // The lines of the register, and their entries.
+    pub const LINES: usize = 1024;
+
+    pub const ENTRIES: usize = 3072;
+
     // The most bytes of a trace lent in memory.
     pub const TRACE: usize = 65536;
 
@@ -43,8 +51,10 @@ impl Store {
 pub enum Refusal {
     // N outside 1 to 1,024, an area of the store not exactly its length, list or work too short.
     Size,
-    // Tables not sound.
+    // Tables or register not sound.
     Unsound,
+    // The seat is above 31.
+    Seat,
     // P is N or more, K above 3, or T neither none nor below N.
     Number,
     // P or T is a free number.
@@ -53,8 +63,12 @@ pub enum Refusal {
     State,
     // Acquire or freeze of a frozen piece with 1,000 holds.
     Limit,
+    // A hold would need a line of the register, and none is free.
+    Register,
     // Release of a piece with 0 holds.
     NotHeld,
+    // Release of a piece that has holds, but none of this seat's.
+    NotYours,
     // Bin of a draft that another piece links to.
     Linked,
     // New with no free number.
@@ -72,11 +86,14 @@ pub fn refusal_number(refusal: Refusal) -> u32
     match refusal {
         Refusal::Size => 1,
         Refusal::Unsound => 2,
+        Refusal::Seat => 12,
         Refusal::Number => 3,
         Refusal::Free => 4,
         Refusal::State => 5,
         Refusal::Limit => 6,
+        Refusal::Register => 14,
         Refusal::NotHeld => 7,
+        Refusal::NotYours => 13,
         Refusal::Linked => 8,
         Refusal::Full => 9,
         Refusal::Long => 10,
@@ -88,9 +105,9 @@ pub fn refusal_number(refusal: Refusal) -> u32
 pub enum Command {
     New,
     Set { p: u16, k: u16, t: u16 },
-    Freeze(u16),
-    Acquire(u16),
-    Release(u16),
+    Freeze { p: u16, seat: u16 },
+    Acquire { p: u16, seat: u16 },
+    Release { p: u16, seat: u16 },
     Bin(u16),
     Look(u16),
 }

@@ -3,10 +3,11 @@ ghost use mathlib.Core.Path.{_≡_};
 ghost use mathlib.Core.Logic.{_⊎_};
 ghost use Prim.Native.Nat.{_≤_, _<_};
 ghost use lib.ListN.{length};
-ghost use Rattle.rules.specs.Tables.{storeOf};
+ghost use Rattle.rules.specs.Tables.{tablesOf};
 ghost use Rattle.rules.specs.Limits.{none};
-ghost use Rattle.rules.specs.Calls.{answered, effect, Ready, Did};
+ghost use Rattle.rules.specs.Calls.{answered, Ready};
 ghost use Rattle.rules.specs.declared.Command.the-variants.{Set};
+ghost use Rattle.laws.specs.ByTables.{DidTables, tablesEffect};
 ghost use Rattle.editing.specs.Verdicts.{Worked};
 ghost use Rattle.editing.specs.Targets.{misnames, frees};
 ghost use Rattle.editing.specs.Set.{Setting};
@@ -66,10 +67,10 @@ fn set_place(
     k: usize,
     t: u16,
 ) -> usize
-    requires { ⌜ Setting (storeOf n (now states) (now links) (now leaders) (now holds) (now counts)) (now list) p k t ⌝ }
+    requires { ⌜ Setting (tablesOf n (now states) (now links) (now leaders) (now holds) (now counts)) (now list) p k t ⌝ }
     ensures { λ r. ⌜ Worked (Set p k t)
-        (storeOf n (now (states .entry)) (now (links .entry)) (now (leaders .entry)) (now (holds .entry)) (now (counts .entry))) (now (list .entry))
-        (storeOf n (now (states .exit)) (now (links .exit)) (now (leaders .exit)) (now (holds .entry)) (now (counts .exit))) (now (list .exit)) r ⌝ }
+        (tablesOf n (now (states .entry)) (now (links .entry)) (now (leaders .entry)) (now (holds .entry)) (now (counts .entry))) (now (list .entry))
+        (tablesOf n (now (states .exit)) (now (links .exit)) (now (leaders .exit)) (now (holds .entry)) (now (counts .exit))) (now (list .exit)) r ⌝ }
 {
     let old = linking::relink(n, links, leaders, counts, p, k, t);
     let first = letting_go::fall(n, states, leaders, counts, list, old, 0);
@@ -89,10 +90,10 @@ pub fn set_link(
     k: u16,
     t: u16,
 ) -> Answer
-    requires { ⌜ Ready (storeOf n (now states) (now links) (now leaders) (now holds) (now counts)) × (n ≤ length (now list)) ⌝ }
-    ensures { λ r. ⌜ Did (Set p k t)
-        (storeOf n (now (states .entry)) (now (links .entry)) (now (leaders .entry)) (now (holds .entry)) (now (counts .entry))) (now (list .entry))
-        (effect (answered r) (storeOf n (now (states .exit)) (now (links .exit)) (now (leaders .exit)) (now (holds .entry)) (now (counts .exit))) (now (list .exit))) ⌝ }
+    requires { ⌜ Ready (tablesOf n (now states) (now links) (now leaders) (now holds) (now counts)) × (n ≤ length (now list)) ⌝ }
+    ensures { λ r. ⌜ DidTables (Set p k t)
+        (tablesOf n (now (states .entry)) (now (links .entry)) (now (leaders .entry)) (now (holds .entry)) (now (counts .entry))) (now (list .entry))
+        (tablesEffect (answered r) (tablesOf n (now (states .exit)) (now (links .exit)) (now (leaders .exit)) (now (holds .entry)) (now (counts .exit))) (now (list .exit))) ⌝ }
 {
     if wrong_number(n, p, k, t) {
         return Answer::Refused(Refusal::Number);

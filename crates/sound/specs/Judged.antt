@@ -7,7 +7,7 @@ use native.Mathlib.Omega.{arith}
 use lib.ListN.{length, drop, replicate, length-append, length-replicate, length-drop, getD-replicate, List·getD-append}
 use lib.Seq.{drop-at, getD-drop}
 use Rattle.rules.specs.Lists.{_!_}
-use Rattle.rules.specs.Tables.{Store, isSound}
+use Rattle.rules.specs.Tables.{Tables, isSound}
 use Rattle.rules.specs.Words.{Well, Sound, Sized}
 use Rattle.rules.specs.Calls.{clear, Clear}
 use Rattle.laws.specs.Sound.{sound→entries, entries→sound, isSound→, →isSound}
@@ -19,26 +19,26 @@ use Rattle.sound.specs.Leaders.{LeaderFound, LeadersRight, leaders-told}
 use Rattle.sound.specs.Counted.{CountGiven, CountedUp, OutsideKept, UpTested, behind-regions, CountFound, counts-told}
 
 -- whether the tables are sound; behind its eight regions work is as it was
-pub record Judged (s : Store) (w w′ : List ℕ) (r : Bool) : Type 0 where
+pub record Judged (s : Tables) (w w′ : List ℕ) (r : Bool) : Type 0 where
   pub tells : Truthful (Sound s) r
   pub later : drop (8 * s .base .n) w′ ≡ drop (8 * s .base .n) w
 
-pub is-sound : {s : Store} {w w′ : List ℕ} {r : Bool} → Judged s w w′ r → r ≡ isSound s
+pub is-sound : {s : Tables} {w w′ : List ℕ} {r : Bool} → Judged s w w′ r → r ≡ isSound s
 is-sound {s} x = tells-is (isSound s) (isSound→ s) (→isSound s) (x .tells)
 
 -- states and holds are not well
-pub not-held : {s : Store} {w : List ℕ} {r : Bool} → Truthful (Below (HeldWell (s .base .states) (s .base .holds)) (s .base .n)) r → not r ≡ true → Judged s w w false
+pub not-held : {s : Tables} {w : List ℕ} {r : Bool} → Truthful (Below (HeldWell (s .base .states) (s .base .holds)) (s .base .n)) r → not r ≡ true → Judged s w w false
 not-held {s} held e = record { tells = tells-no (λ x. told-no held e (λ p h. holds-of (s .base) p (sound→entries s x .good .wells p h))); later = refl }
 
 -- ---- the first two passes
 
 -- what the first two passes leave: every piece is well, and the labels are counted
-pub record WellCounted (s : Store) (w w₁ : List ℕ) : Type 0 where
+pub record WellCounted (s : Tables) (w w₁ : List ℕ) : Type 0 where
   pub wells : Below (Well (s .base)) (s .base .n)
   pub counted : CountedUp (s .base .n) (s .base .links) (s .base .holds) (s .leaders) w₁
   pub kept : OutsideKept (s .base .n) w w₁
 
-module _ {s : Store} (z : Sized s) {w : List ℕ} (empty : Clear (s .base .n) w) {r : Bool}
+module _ {s : Tables} (z : Sized s) {w : List ℕ} (empty : Clear (s .base .n) w) {r : Bool}
     (held : Truthful (Below (HeldWell (s .base .states) (s .base .holds)) (s .base .n)) r) (yes : not r ≡ false) where
   pub count-given : CountGiven (s .base .n) (s .base .states) (s .base .links) (s .leaders) (s .base .holds) w
   count-given = record {
@@ -65,7 +65,7 @@ module _ {s : Store} (z : Sized s) {w : List ℕ} (empty : Clear (s .base .n) w)
 
 -- ---- the search, and the last two passes
 
-module _ {s : Store} {w w₁ : List ℕ} (z : Sized s) (C : WellCounted s w w₁) where
+module _ {s : Tables} {w w₁ : List ℕ} (z : Sized s) (C : WellCounted s w w₁) where
   pub searchable : Clear (s .base .n) w → Searchable (s .base .n) (s .base .states) (s .base .links) 2 w₁
   searchable empty = record {
     lent = record { most = z .base .most; states-n = z .base .states; links-n = z .base .links; work-n = omega (arith, empty .size, C .kept .size) };
@@ -122,7 +122,7 @@ clears {n} w {w₁} h e =
           getD-replicate (8 * n) i 0 0 l;
     }
 
-pub cleared-again : {s : Store} (w : List ℕ) {w₁ w₂ w₃ : List ℕ} {r : Bool} → w₁ ≡ replicate (8 * s .base .n) 0 ++ drop (8 * s .base .n) w → Judged s w₁ w₂ r
+pub cleared-again : {s : Tables} (w : List ℕ) {w₁ w₂ w₃ : List ℕ} {r : Bool} → w₁ ≡ replicate (8 * s .base .n) 0 ++ drop (8 * s .base .n) w → Judged s w₁ w₂ r
     → w₃ ≡ replicate (8 * s .base .n) 0 ++ drop (8 * s .base .n) w₂ → w₃ ≡ clear (s .base .n) w
 unfolding clear
 cleared-again {s} w d j e =

@@ -4,7 +4,7 @@
 ghost use mathlib.Core.Path.{_≡_};
 ghost use Prim.Native.Nat.{_*_, _≤_, _<_};
 ghost use lib.ListN.{length};
-ghost use Rattle.rules.specs.Tables.{isSound, storeOf};
+ghost use Rattle.rules.specs.Tables.{isSound, tablesOf};
 ghost use Rattle.rules.specs.Words.{Sized};
 ghost use Rattle.rules.specs.Calls.{clear, Clear};
 ghost use Rattle.sound.specs.Truthful.{Truthful, Below};
@@ -265,8 +265,8 @@ fn judge(
     counts: &[u32],
     work: &mut [u32],
 ) -> bool
-    requires { ⌜ Sized (storeOf n (now states) (now links) (now leaders) (now holds) (now counts)) × Clear n (now work) ⌝ }
-    ensures { λ r. ⌜ Judged (storeOf n (now (states .entry)) (now (links .entry)) (now (leaders .entry)) (now (holds .entry)) (now (counts .entry))) (now (work .entry)) (now (work .exit)) r ⌝ }
+    requires { ⌜ Sized (tablesOf n (now states) (now links) (now leaders) (now holds) (now counts)) × Clear n (now work) ⌝ }
+    ensures { λ r. ⌜ Judged (tablesOf n (now (states .entry)) (now (links .entry)) (now (leaders .entry)) (now (holds .entry)) (now (counts .entry))) (now (work .entry)) (now (work .exit)) r ⌝ }
 {
     if !all_held(n, states, holds) {
         return false;
@@ -291,8 +291,8 @@ pub fn is_sound(
     counts: &[u32],
     work: &mut [u32],
 ) -> bool
-    requires { ⌜ (1 ≤ n) × Sized (storeOf n (now states) (now links) (now leaders) (now holds) (now counts)) × (8 * n ≤ length (now work)) ⌝ }
-    ensures { λ r. ⌜ (r ≡ isSound (storeOf n (now (states .entry)) (now (links .entry)) (now (leaders .entry)) (now (holds .entry)) (now (counts .entry)))) ×
+    requires { ⌜ (1 ≤ n) × Sized (tablesOf n (now states) (now links) (now leaders) (now holds) (now counts)) × (8 * n ≤ length (now work)) ⌝ }
+    ensures { λ r. ⌜ (r ≡ isSound (tablesOf n (now (states .entry)) (now (links .entry)) (now (leaders .entry)) (now (holds .entry)) (now (counts .entry)))) ×
         (now (work .exit) ≡ clear n (now (work .entry))) ⌝ }
 {
     areas::fill_u32(work, 8 * n, 0);

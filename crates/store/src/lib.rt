@@ -10,7 +10,7 @@ use rules::Refusal;
 use rules::Seen;
 use rules::Store;
 
-// Any table contents become the empty store.
+// Any contents become the empty store.
 pub fn start(
     n: usize,
     states: &mut [u8],
@@ -18,12 +18,13 @@ pub fn start(
     leaders: &mut [u16],
     holds: &mut [u16],
     counts: &mut [u32],
+    register: &mut [u16],
 ) -> Answer
     ensures { λ r. ⌜ Promise start
-        (areasOf (storeOf n (now (states .entry)) (now (links .entry)) (now (leaders .entry)) (now (holds .entry)) (now (counts .entry))) [] [])
-        (outcome (answered r) (areasOf (storeOf n (now (states .exit)) (now (links .exit)) (now (leaders .exit)) (now (holds .exit)) (now (counts .exit))) [] [])) ⌝ }
+        (areasOf (storeOf n (now (states .entry)) (now (links .entry)) (now (leaders .entry)) (now (holds .entry)) (now (counts .entry)) (now (register .entry))) [] [])
+        (outcome (answered r) (areasOf (storeOf n (now (states .exit)) (now (links .exit)) (now (leaders .exit)) (now (holds .exit)) (now (counts .exit)) (now (register .exit))) [] [])) ⌝ }
 {
-    if !areas::sized(n, states, links, leaders, holds, counts) {
+    if !entering::sized(n, states, links, leaders, holds, counts, register) {
         return Answer::Refused(Refusal::Size);
     }
     areas::fill_u8(states, n, 0);
@@ -31,6 +32,7 @@ pub fn start(
     areas::fill_u16(leaders, n, Store::NONE);
     areas::fill_u16(holds, n, 0);
     areas::fill_u32(counts, n, 0);
+    register::clear(register);
     Store::fresh()
 }
 
@@ -42,15 +44,27 @@ pub fn new(
     leaders: &[u16],
     holds: &[u16],
     counts: &[u32],
+    register: &[u16],
     list: &[u16],
     work: &mut [u32],
 ) -> Answer
     ensures { λ r. ⌜ Promise (does New)
-        (areasOf (storeOf n (now (states .entry)) (now (links .entry)) (now (leaders .entry)) (now (holds .entry)) (now (counts .entry))) (now (list .entry)) (now (work .entry)))
-        (outcome (answered r) (areasOf (storeOf n (now (states .exit)) (now (links .entry)) (now (leaders .entry)) (now (holds .entry)) (now (counts .entry)))
+        (areasOf (storeOf n (now (states .entry)) (now (links .entry)) (now (leaders .entry)) (now (holds .entry)) (now (counts .entry)) (now (register .entry)))
+        (now (list .entry)) (now (work .entry)))
+        (outcome (answered r) (areasOf (storeOf n (now (states .exit)) (now (links .entry)) (now (leaders .entry)) (now (holds .entry)) (now (counts .entry)) (now (register .entry)))
         (now (list .entry)) (now (work .exit)))) ⌝ }
 {
-    match entering::enter(n, states, links, leaders, holds, counts, list.len(), work) {
+    match entering::enter(
+        n,
+        states,
+        links,
+        leaders,
+        holds,
+        counts,
+        register,
+        list.len(),
+        work,
+    ) {
         Entry::Short => Answer::Refused(Refusal::Size),
         Entry::Flawed => Answer::Refused(Refusal::Unsound),
         Entry::Sound => {
@@ -68,6 +82,7 @@ pub fn set(
     leaders: &mut [u16],
     holds: &[u16],
     counts: &mut [u32],
+    register: &[u16],
     list: &mut [u16],
     work: &mut [u32],
     p: u16,
@@ -75,18 +90,29 @@ pub fn set(
     t: u16,
 ) -> Answer
     ensures { λ r. ⌜ Promise (does (Set p k t))
-        (areasOf (storeOf n (now (states .entry)) (now (links .entry)) (now (leaders .entry)) (now (holds .entry)) (now (counts .entry))) (now (list .entry)) (now (work .entry)))
-        (outcome (answered r) (areasOf (storeOf n (now (states .exit)) (now (links .exit)) (now (leaders .exit)) (now (holds .entry)) (now (counts .exit)))
+        (areasOf (storeOf n (now (states .entry)) (now (links .entry)) (now (leaders .entry)) (now (holds .entry)) (now (counts .entry)) (now (register .entry)))
+        (now (list .entry)) (now (work .entry)))
+        (outcome (answered r) (areasOf (storeOf n (now (states .exit)) (now (links .exit)) (now (leaders .exit)) (now (holds .entry)) (now (counts .exit)) (now (register .entry)))
         (now (list .exit)) (now (work .exit)))) ⌝ }
 {
-    match entering::enter(n, states, links, leaders, holds, counts, list.len(), work) {
+    match entering::enter(
+        n,
+        states,
+        links,
+        leaders,
+        holds,
+        counts,
+        register,
+        list.len(),
+        work,
+    ) {
         Entry::Short => Answer::Refused(Refusal::Size),
         Entry::Flawed => Answer::Refused(Refusal::Unsound),
         Entry::Sound => setting::set_link(n, states, links, leaders, holds, counts, list, p, k, t),
     }
 }
 
-// P and every draft it reaches become frozen; P gets one hold. If P is frozen already it only gets one more hold.
+// P and every draft it reaches become frozen; P gets one hold of the seat's. If P is frozen already it only gets one more.
 pub fn freeze(
     n: usize,
     states: &mut [u8],
@@ -94,23 +120,47 @@ pub fn freeze(
     leaders: &mut [u16],
     holds: &mut [u16],
     counts: &mut [u32],
+    register: &mut [u16],
     list: &[u16],
     work: &mut [u32],
     p: u16,
+    seat: u16,
 ) -> Answer
-    ensures { λ r. ⌜ Promise (does (Freeze p))
-        (areasOf (storeOf n (now (states .entry)) (now (links .entry)) (now (leaders .entry)) (now (holds .entry)) (now (counts .entry))) (now (list .entry)) (now (work .entry)))
-        (outcome (answered r) (areasOf (storeOf n (now (states .exit)) (now (links .entry)) (now (leaders .exit)) (now (holds .exit)) (now (counts .exit)))
+    ensures { λ r. ⌜ Promise (does (Freeze p seat))
+        (areasOf (storeOf n (now (states .entry)) (now (links .entry)) (now (leaders .entry)) (now (holds .entry)) (now (counts .entry)) (now (register .entry)))
+        (now (list .entry)) (now (work .entry)))
+        (outcome (answered r) (areasOf (storeOf n (now (states .exit)) (now (links .entry)) (now (leaders .exit)) (now (holds .exit)) (now (counts .exit)) (now (register .exit)))
         (now (list .entry)) (now (work .exit)))) ⌝ }
 {
-    match entering::enter(n, states, links, leaders, holds, counts, list.len(), work) {
+    match entering::enter(
+        n,
+        states,
+        links,
+        leaders,
+        holds,
+        counts,
+        register,
+        list.len(),
+        work,
+    ) {
         Entry::Short => Answer::Refused(Refusal::Size),
         Entry::Flawed => Answer::Refused(Refusal::Unsound),
-        Entry::Sound => freezing::freeze(n, states, links, leaders, holds, counts, work, p),
+        Entry::Sound => freezing::freeze(
+            n,
+            states,
+            links,
+            leaders,
+            holds,
+            counts,
+            register,
+            work,
+            p,
+            seat,
+        ),
     }
 }
 
-// One hold more on frozen P.
+// One hold more of the seat on frozen P.
 pub fn acquire(
     n: usize,
     states: &[u8],
@@ -118,23 +168,36 @@ pub fn acquire(
     leaders: &[u16],
     holds: &mut [u16],
     counts: &mut [u32],
+    register: &mut [u16],
     list: &[u16],
     work: &mut [u32],
     p: u16,
+    seat: u16,
 ) -> Answer
-    ensures { λ r. ⌜ Promise (does (Acquire p))
-        (areasOf (storeOf n (now (states .entry)) (now (links .entry)) (now (leaders .entry)) (now (holds .entry)) (now (counts .entry))) (now (list .entry)) (now (work .entry)))
-        (outcome (answered r) (areasOf (storeOf n (now (states .entry)) (now (links .entry)) (now (leaders .entry)) (now (holds .exit)) (now (counts .exit)))
+    ensures { λ r. ⌜ Promise (does (Acquire p seat))
+        (areasOf (storeOf n (now (states .entry)) (now (links .entry)) (now (leaders .entry)) (now (holds .entry)) (now (counts .entry)) (now (register .entry)))
+        (now (list .entry)) (now (work .entry)))
+        (outcome (answered r) (areasOf (storeOf n (now (states .entry)) (now (links .entry)) (now (leaders .entry)) (now (holds .exit)) (now (counts .exit)) (now (register .exit)))
         (now (list .entry)) (now (work .exit)))) ⌝ }
 {
-    match entering::enter(n, states, links, leaders, holds, counts, list.len(), work) {
+    match entering::enter(
+        n,
+        states,
+        links,
+        leaders,
+        holds,
+        counts,
+        register,
+        list.len(),
+        work,
+    ) {
         Entry::Short => Answer::Refused(Refusal::Size),
         Entry::Flawed => Answer::Refused(Refusal::Unsound),
-        Entry::Sound => holding::acquire(n, states, leaders, holds, counts, p),
+        Entry::Sound => holding::acquire(n, states, leaders, holds, counts, register, p, seat),
     }
 }
 
-// One hold less on frozen P; then every frozen piece no longer kept becomes free.
+// One hold less of the seat on frozen P; then every frozen piece no longer kept becomes free.
 pub fn release(
     n: usize,
     states: &mut [u8],
@@ -142,18 +205,43 @@ pub fn release(
     leaders: &mut [u16],
     holds: &mut [u16],
     counts: &mut [u32],
+    register: &mut [u16],
     list: &mut [u16],
     work: &mut [u32],
     p: u16,
+    seat: u16,
 ) -> Answer
-    ensures { λ r. ⌜ Promise (does (Release p))
-        (areasOf (storeOf n (now (states .entry)) (now (links .entry)) (now (leaders .entry)) (now (holds .entry)) (now (counts .entry))) (now (list .entry)) (now (work .entry)))
-        (outcome (answered r) (areasOf (storeOf n (now (states .exit)) (now (links .exit)) (now (leaders .exit)) (now (holds .exit)) (now (counts .exit))) (now (list .exit)) (now (work .exit)))) ⌝ }
+    ensures { λ r. ⌜ Promise (does (Release p seat))
+        (areasOf (storeOf n (now (states .entry)) (now (links .entry)) (now (leaders .entry)) (now (holds .entry)) (now (counts .entry)) (now (register .entry)))
+        (now (list .entry)) (now (work .entry)))
+        (outcome (answered r) (areasOf (storeOf n (now (states .exit)) (now (links .exit)) (now (leaders .exit)) (now (holds .exit)) (now (counts .exit)) (now (register .exit)))
+        (now (list .exit)) (now (work .exit)))) ⌝ }
 {
-    match entering::enter(n, states, links, leaders, holds, counts, list.len(), work) {
+    match entering::enter(
+        n,
+        states,
+        links,
+        leaders,
+        holds,
+        counts,
+        register,
+        list.len(),
+        work,
+    ) {
         Entry::Short => Answer::Refused(Refusal::Size),
         Entry::Flawed => Answer::Refused(Refusal::Unsound),
-        Entry::Sound => holding::release(n, states, links, leaders, holds, counts, list, p),
+        Entry::Sound => holding::release(
+            n,
+            states,
+            links,
+            leaders,
+            holds,
+            counts,
+            register,
+            list,
+            p,
+            seat,
+        ),
     }
 }
 
@@ -165,16 +253,28 @@ pub fn bin(
     leaders: &mut [u16],
     holds: &[u16],
     counts: &mut [u32],
+    register: &[u16],
     list: &mut [u16],
     work: &mut [u32],
     p: u16,
 ) -> Answer
     ensures { λ r. ⌜ Promise (does (Bin p))
-        (areasOf (storeOf n (now (states .entry)) (now (links .entry)) (now (leaders .entry)) (now (holds .entry)) (now (counts .entry))) (now (list .entry)) (now (work .entry)))
-        (outcome (answered r) (areasOf (storeOf n (now (states .exit)) (now (links .exit)) (now (leaders .exit)) (now (holds .entry)) (now (counts .exit)))
+        (areasOf (storeOf n (now (states .entry)) (now (links .entry)) (now (leaders .entry)) (now (holds .entry)) (now (counts .entry)) (now (register .entry)))
+        (now (list .entry)) (now (work .entry)))
+        (outcome (answered r) (areasOf (storeOf n (now (states .exit)) (now (links .exit)) (now (leaders .exit)) (now (holds .entry)) (now (counts .exit)) (now (register .entry)))
         (now (list .exit)) (now (work .exit)))) ⌝ }
 {
-    match entering::enter(n, states, links, leaders, holds, counts, list.len(), work) {
+    match entering::enter(
+        n,
+        states,
+        links,
+        leaders,
+        holds,
+        counts,
+        register,
+        list.len(),
+        work,
+    ) {
         Entry::Short => Answer::Refused(Refusal::Size),
         Entry::Flawed => Answer::Refused(Refusal::Unsound),
         Entry::Sound => binning::bin(n, states, links, leaders, holds, counts, list, p),
@@ -189,21 +289,23 @@ pub fn look(
     leaders: &[u16],
     holds: &[u16],
     counts: &[u32],
+    register: &[u16],
     work: &mut [u32],
     p: u16,
 ) -> Seen
     ensures { λ r. ⌜ Promise (does (Look p))
-        (areasOf (storeOf n (now (states .entry)) (now (links .entry)) (now (leaders .entry)) (now (holds .entry)) (now (counts .entry))) [] (now (work .entry)))
-        (outcome (saw r) (areasOf (storeOf n (now (states .entry)) (now (links .entry)) (now (leaders .entry)) (now (holds .entry)) (now (counts .entry))) [] (now (work .exit)))) ⌝ }
+        (areasOf (storeOf n (now (states .entry)) (now (links .entry)) (now (leaders .entry)) (now (holds .entry)) (now (counts .entry)) (now (register .entry))) [] (now (work .entry)))
+        (outcome (saw r) (areasOf (storeOf n (now (states .entry)) (now (links .entry)) (now (leaders .entry)) (now (holds .entry)) (now (counts .entry)) (now (register .entry)))
+        [] (now (work .exit)))) ⌝ }
 {
-    match entering::enter(n, states, links, leaders, holds, counts, n, work) {
+    match entering::enter(n, states, links, leaders, holds, counts, register, n, work) {
         Entry::Short => Seen::Unseen(Refusal::Size),
         Entry::Flawed => Seen::Unseen(Refusal::Unsound),
         Entry::Sound => looking::look(n, states, links, leaders, holds, counts, p),
     }
 }
 
-// Yes exactly if the tables are sound.
+// Yes exactly if the store is sound.
 pub fn check(
     n: usize,
     states: &[u8],
@@ -211,13 +313,15 @@ pub fn check(
     leaders: &[u16],
     holds: &[u16],
     counts: &[u32],
+    register: &[u16],
     work: &mut [u32],
 ) -> Checked
     ensures { λ r. ⌜ Promise check
-        (areasOf (storeOf n (now (states .entry)) (now (links .entry)) (now (leaders .entry)) (now (holds .entry)) (now (counts .entry))) [] (now (work .entry)))
-        (outcome (checked r) (areasOf (storeOf n (now (states .entry)) (now (links .entry)) (now (leaders .entry)) (now (holds .entry)) (now (counts .entry))) [] (now (work .exit)))) ⌝ }
+        (areasOf (storeOf n (now (states .entry)) (now (links .entry)) (now (leaders .entry)) (now (holds .entry)) (now (counts .entry)) (now (register .entry))) [] (now (work .entry)))
+        (outcome (checked r) (areasOf (storeOf n (now (states .entry)) (now (links .entry)) (now (leaders .entry)) (now (holds .entry)) (now (counts .entry)) (now (register .entry)))
+        [] (now (work .exit)))) ⌝ }
 {
-    match entering::enter(n, states, links, leaders, holds, counts, n, work) {
+    match entering::enter(n, states, links, leaders, holds, counts, register, n, work) {
         Entry::Short => Checked::Unchecked(Refusal::Size),
         Entry::Flawed => Checked::No,
         Entry::Sound => Checked::Yes,

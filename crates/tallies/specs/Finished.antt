@@ -9,7 +9,7 @@ use lib.ListN.{length}
 use lib.Seq.{ext-getD}
 use Rattle.rules.specs.Limits.{none}
 use Rattle.rules.specs.Below.{table}
-use Rattle.rules.specs.Tables.{storeOn, Base, Store, state, isFrozen, leaderOf, leaderEntry, countEntry, finish}
+use Rattle.rules.specs.Tables.{tablesOn, Base, Tables, state, isFrozen, leaderOf, leaderEntry, countEntry, finish}
 use Rattle.rules.specs.Words.{Frozen, Well}
 use Rattle.rules.specs.Lists.{_!_}
 use Rattle.laws.specs.Below.{getD-table, length-table}
@@ -42,6 +42,6 @@ module _ (b : Base) (leaders : List ℕ) (x : Exact b leaders) where
         ext-getD 0 counts (table (countEntry b) (b .n)) (size ∙ sym (length-table (countEntry b) (b .n)))
         (λ L h. let k : L < b .n = subst (λ (u : ℕ). L < u) size h in m L k ∙ tally-entry b leaders x wells L k ∙ sym (getD-table (countEntry b) (b .n) L 0 k))
 
-    pub finished : storeOn b leaders counts ≡ finish b
+    pub finished : tablesOn b leaders counts ≡ finish b
     unfolding finish
-    finished = λ i. storeOn b (leaders-finished i) (counts-finished i)
+    finished = λ i. tablesOn b (leaders-finished i) (counts-finished i)

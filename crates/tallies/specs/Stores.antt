@@ -7,7 +7,7 @@ use native.Mathlib.Omega.{arith}
 use lib.Dec.{not-T}
 use lib.ListN.{length}
 use Rattle.rules.specs.Limits.{none}
-use Rattle.rules.specs.Tables.{Base, Store, isFrozen, linkAt, holdsOf, leaderOf, leaderEntry}
+use Rattle.rules.specs.Tables.{Base, Tables, isFrozen, linkAt, holdsOf, leaderOf, leaderEntry}
 use Rattle.rules.specs.Reach.{Link}
 use Rattle.rules.specs.Words.{Frozen, Live, Leader, Well, wfree, wdraft, wfrozen}
 use Rattle.rules.specs.Calls.{Ready}
@@ -59,7 +59,7 @@ exact-right b leaders size small right = record {
     at : (p : ℕ) → p < b .n → label leaders p ≡ leaderEntry b p
     at p h = getD-any leaders p none 0 (omega (arith, size)) ∙ right p h
 
-module _ (s : Store) (o : Ready s) where
+module _ (s : Tables) (o : Ready s) where
   abbrev b : Base
   b = s .base
 

@@ -6,8 +6,8 @@ use native.Mathlib.Omega.{arith}
 use lib.ListN.{length, take, drop, drop-of-length-le}
 use Rattle.rules.specs.Limits.{most}
 use Rattle.rules.specs.Tables.{Store}
-use Rattle.rules.specs.Words.{Sized}
-use Rattle.rules.specs.Calls.{Ready}
+use Rattle.rules.specs.Words.{SizedStore}
+use Rattle.rules.specs.Calls.{ReadyStore}
 use Rattle.lines.specs.Ending.{Closed}
 use Rattle.chunks.specs.Says.{Says, says-none, says-more}
 use Rattle.answers.specs.Wrote.{longest}
@@ -18,7 +18,7 @@ use Rattle.trace.specs.declared.Lines.the-variants.{Written, Unwritten}
 
 -- the first `at` bytes of a text are answered by what was written, and the store stands; s had its lengths too
 pub record Serving (s : Store) (text : List ℕ) (s′ : Store) (l′ w′ : List ℕ) (at from′ : ℕ) : Type 0 where
-  pub sized : Sized s
+  pub sized : SizedStore s
   pub inside : at ≤ length text
   pub stands : Stands most s′ l′ w′ from′
   pub said : List ℕ
@@ -32,7 +32,7 @@ pub record Answers (s : Store) (text : List ℕ) (s′ : Store) : Type 0 where
 -- where all was written, the store stands and is what the rules give for the text; else it is sound all the same
 abbrev pub Serves : Store → List ℕ → Store → List ℕ → List ℕ → Lines → Type 0
 Serves s text s′ l′ w′ (Written from′) = Stands most s′ l′ w′ from′ × Answers s text s′
-Serves s text s′ l′ w′ Unwritten = Ready s′
+Serves s text s′ l′ w′ Unwritten = ReadyStore s′
 
 pub record Served (s : Store) (text : List ℕ) (s′ : Store) (l′ w′ : List ℕ) (r : Lines) : Type 0 where
   pub is : Serves s text s′ l′ w′ r

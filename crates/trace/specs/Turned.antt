@@ -8,7 +8,7 @@ use lib.ListN.{length, getD, take, drop, length-drop, length-take}
 use lib.Seq.{getD-drop, getD-take, length-take-le, take-add, take-take}
 use Rattle.rules.specs.Limits.{most}
 use Rattle.rules.specs.Tables.{Store}
-use Rattle.rules.specs.Calls.{Ready}
+use Rattle.rules.specs.Calls.{ReadyStore}
 use Rattle.lines.specs.Ending.{Unended, Closed}
 use Rattle.chunks.specs.Short.{enough}
 use Rattle.chunks.specs.Says.{Says, says-more, says-behind, says-cut, closing, closing-last}
@@ -33,9 +33,9 @@ pub record Keeps (s : Store) (l w buf : List ℕ) (kept from : ℕ) : Type 0 whe
 -- what goes on, or is over, is what the rules give; and the store is sound in any case
 abbrev pub Turns : Store → List ℕ → Store → List ℕ → List ℕ → List ℕ → Next → Type 0
 Turns s before s′ l′ w′ buf′ (next.More kept from) = Keeps s′ l′ w′ buf′ kept from × Went s before s′ (take kept buf′)
-Turns s before s′ l′ w′ buf′ next.Ended = Ready s′ × Over s before s′
-Turns s before s′ l′ w′ buf′ next.Unread = Ready s′
-Turns s before s′ l′ w′ buf′ next.Unwritten = Ready s′
+Turns s before s′ l′ w′ buf′ next.Ended = ReadyStore s′ × Over s before s′
+Turns s before s′ l′ w′ buf′ next.Unread = ReadyStore s′
+Turns s before s′ l′ w′ buf′ next.Unwritten = ReadyStore s′
 
 pub record Turned (s : Store) (before : List ℕ) (s′ : Store) (l′ w′ buf′ : List ℕ) (r : Next) : Type 0 where
   pub is : Turns s before s′ l′ w′ buf′ r
@@ -152,5 +152,5 @@ module _ {s s′ : Store} {before l′ w′ buf′ : List ℕ} {r : Next} (o : S
   pub turned-more : {kept from : ℕ} → r ≡ next.More kept from → Keeps s′ l′ w′ buf′ kept from × Sofar most s′ (take kept buf′)
   turned-more e = let t = subst (Turns s before s′ l′ w′ buf′) e (v .is) in (t .0, sofar-more o (t .1))
 
-  pub turned-ended : r ≡ next.Ended → Ready s′ × Finished most s′
+  pub turned-ended : r ≡ next.Ended → ReadyStore s′ × Finished most s′
   turned-ended e = let t = subst (Turns s before s′ l′ w′ buf′) e (v .is) in (t .0, sofar-over o (t .1))

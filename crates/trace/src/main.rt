@@ -3,7 +3,7 @@ ghost use Prim.Native.Nat.{_≤_, _<_};
 ghost use lib.ListN.{length, take};
 ghost use Rattle.rules.specs.Tables.{storeOf};
 ghost use Rattle.rules.specs.Limits.{most};
-ghost use Rattle.rules.specs.Calls.{Ready};
+ghost use Rattle.rules.specs.Calls.{ReadyStore};
 ghost use Rattle.lines.specs.Ending.{Closed};
 ghost use Rattle.answers.specs.Wrote.{longest};
 ghost use Rattle.reader.specs.Answered.{Stands};
@@ -32,15 +32,16 @@ fn serve(
     leaders: &mut [u16],
     holds: &mut [u16],
     counts: &mut [u32],
+    register: &mut [u16],
     list: &mut [u16],
     work: &mut [u32],
     from: usize,
     out: &mut [u8],
 ) -> Lines
-    requires { ⌜ Stands most (storeOf most (now states) (now links) (now leaders) (now holds) (now counts)) (now list) (now work) from
+    requires { ⌜ Stands most (storeOf most (now states) (now links) (now leaders) (now holds) (now counts) (now register)) (now list) (now work) from
         × Closed (now text) × (longest ≤ length (now out)) ⌝ }
-    ensures { λ r. ⌜ Served (storeOf most (now (states .entry)) (now (links .entry)) (now (leaders .entry)) (now (holds .entry)) (now (counts .entry))) (now (text .entry))
-        (storeOf most (now (states .exit)) (now (links .exit)) (now (leaders .exit)) (now (holds .exit)) (now (counts .exit))) (now (list .exit)) (now (work .exit)) r ⌝ }
+    ensures { λ r. ⌜ Served (storeOf most (now (states .entry)) (now (links .entry)) (now (leaders .entry)) (now (holds .entry)) (now (counts .entry)) (now (register .entry))) (now (text .entry))
+        (storeOf most (now (states .exit)) (now (links .exit)) (now (leaders .exit)) (now (holds .exit)) (now (counts .exit)) (now (register .exit))) (now (list .exit)) (now (work .exit)) r ⌝ }
 {
     let mut at = 0;
     let mut low = from;
@@ -53,6 +54,7 @@ fn serve(
             leaders,
             holds,
             counts,
+            register,
             list,
             work,
             low,
@@ -132,15 +134,18 @@ fn turn(
     leaders: &mut [u16],
     holds: &mut [u16],
     counts: &mut [u32],
+    register: &mut [u16],
     list: &mut [u16],
     work: &mut [u32],
     from: usize,
     out: &mut [u8],
 ) -> Next
-    requires { ⌜ Keeps (storeOf most (now states) (now links) (now leaders) (now holds) (now counts)) (now list) (now work) (now buf) kept from
+    requires { ⌜ Keeps (storeOf most (now states) (now links) (now leaders) (now holds) (now counts) (now register)) (now list) (now work) (now buf) kept from
         × (kept < length (now buf)) × (longest ≤ length (now out)) ⌝ }
-    ensures { λ r. ⌜ Turned (storeOf most (now (states .entry)) (now (links .entry)) (now (leaders .entry)) (now (holds .entry)) (now (counts .entry))) (take kept (now (buf .entry)))
-        (storeOf most (now (states .exit)) (now (links .exit)) (now (leaders .exit)) (now (holds .exit)) (now (counts .exit))) (now (list .exit)) (now (work .exit)) (now (buf .exit)) r ⌝ }
+    ensures { λ r. ⌜ Turned (storeOf most (now (states .entry)) (now (links .entry)) (now (leaders .entry)) (now (holds .entry)) (now (counts .entry)) (now (register .entry)))
+        (take kept (now (buf .entry)))
+        (storeOf most (now (states .exit)) (now (links .exit)) (now (leaders .exit)) (now (holds .exit)) (now (counts .exit)) (now (register .exit))) (now (list .exit)) (now (work .exit))
+        (now (buf .exit)) r ⌝ }
 {
     let chunk = read_more(buf, kept);
     if chunk.failed {
@@ -155,6 +160,7 @@ fn turn(
         leaders,
         holds,
         counts,
+        register,
         list,
         work,
         from,
@@ -190,10 +196,11 @@ fn finish(
     leaders: &[u16],
     holds: &[u16],
     counts: &[u32],
+    register: &[u16],
     out: &mut [u8],
 )
-    requires { ⌜ Ready (storeOf most (now states) (now links) (now leaders) (now holds) (now counts))
-        × Finished most (storeOf most (now states) (now links) (now leaders) (now holds) (now counts)) × (64 ≤ length (now out)) ⌝ }
+    requires { ⌜ ReadyStore (storeOf most (now states) (now links) (now leaders) (now holds) (now counts) (now register))
+        × Finished most (storeOf most (now states) (now links) (now leaders) (now holds) (now counts) (now register)) × (64 ≤ length (now out)) ⌝ }
 {
     let size = reader::close(Store::MOST, states, leaders, out, 0);
     if !io::write_all(STDOUT_FILENO, &out[..size]) {
@@ -208,6 +215,7 @@ fn run() {
     let mut leaders = [65535u16; 1024];
     let mut holds = [0u16; 1024];
     let mut counts = [0u32; 1024];
+    let mut register = [0u16; Store::ENTRIES];
     let mut list = [0u16; 1024];
     let mut work = [0u32; 8192];
     let mut buf = [0u8; 65536];
@@ -224,6 +232,7 @@ fn run() {
             &mut leaders,
             &mut holds,
             &mut counts,
+            &mut register,
             &mut list,
             &mut work,
             from,
@@ -239,7 +248,15 @@ fn run() {
                 turns -= 1;
             }
             Next::Ended => {
-                finish(&states, &links, &leaders, &holds, &counts, &mut out);
+                finish(
+                    &states,
+                    &links,
+                    &leaders,
+                    &holds,
+                    &counts,
+                    &register,
+                    &mut out,
+                );
                 return;
             }
             Next::Unread => {

@@ -3,6 +3,9 @@
 use independent::trace::lines;
 use std::fmt;
 
+/// The refusals that a trace can give, in the rulebook's order.
+pub const REFUSALS: [usize; 10] = [12, 3, 4, 5, 6, 14, 7, 13, 8, 9];
+
 /// What the lines of some traces came to.
 #[derive(Clone, Default)]
 pub struct Figures {
@@ -10,7 +13,7 @@ pub struct Figures {
     pub lines: usize,
     pub bad: usize,
     /// Lines refused, by refusal number.
-    pub refused: [usize; 12],
+    pub refused: [usize; 15],
     /// Pieces freed, and the most by one line.
     pub freed: usize,
     pub most: usize,
@@ -31,7 +34,7 @@ impl Figures {
                     self.freed += freed;
                     self.most = self.most.max(freed);
                 }
-                [refusal, ..] => self.refused[refusal.min(11)] += usize::from(refusal > 0),
+                [refusal, ..] => self.refused[refusal.min(14)] += usize::from(refusal > 0),
             }
         }
     }
@@ -43,14 +46,15 @@ impl Figures {
         self.bad += other.bad;
         self.freed += other.freed;
         self.most = self.most.max(other.most);
-        (0..12).for_each(|r| self.refused[r] += other.refused[r]);
+        (0..15).for_each(|r| self.refused[r] += other.refused[r]);
     }
 }
 
 impl fmt::Display for Figures {
     fn fmt(&self, f: &mut fmt::Formatter) -> fmt::Result {
         let Figures { traces, lines, bad, refused, freed, most } = self;
-        let refused: Vec<String> = (3..=9).map(|r| format!("{r}:{}", refused[r])).collect();
+        let refused: Vec<String> =
+            REFUSALS.iter().map(|&r| format!("{r}:{}", refused[r])).collect();
         let refused = refused.join(" ");
         write!(f, "{traces:4} traces {lines:7} lines, bad {bad}, refused {refused}, freed {freed} (most {most})")
     }

@@ -2,12 +2,15 @@
 
 use crate::random::Random;
 use independent::pieces::Pieces;
+use independent::register::Line;
 use independent::tables::{CAPACITY, DRAFT, FREE, FROZEN, NONE};
 use independent::trace::answer;
 
 pub struct Author {
     pub random: Random,
     pub pieces: Pieces,
+    /// How many seats act; while there is one, it is mostly not named.
+    pub seats: u16,
     pub trace: Vec<u8>,
     pub lines: usize,
 }
@@ -15,7 +18,7 @@ pub struct Author {
 impl Author {
     pub fn new(seed: u64) -> Author {
         let pieces = Pieces::empty(CAPACITY);
-        Author { random: Random::new(seed), pieces, trace: Vec::new(), lines: 0 }
+        Author { random: Random::new(seed), pieces, seats: 1, trace: Vec::new(), lines: 0 }
     }
 
     /// Writes a line of any bytes but 10.
@@ -55,16 +58,50 @@ impl Author {
         self.write(line.as_bytes());
     }
 
+    /// Writes a command with a piece and a seat; seat 0 is now and then not named.
+    pub fn by(&mut self, command: char, p: u16, seat: u16) {
+        if seat == 0 && !self.random.once_in(if self.seats == 1 { 16 } else { 2 }) {
+            return self.command(command, p);
+        }
+        let line = format!("{command} {} {}", self.word(p), self.word(seat));
+        self.write(line.as_bytes());
+    }
+
+    /// One of the seats that act.
+    pub fn seat(&mut self) -> u16 {
+        self.random.below(self.seats.into()) as u16
+    }
+
     pub fn freeze(&mut self, p: u16) {
-        self.command('f', p);
+        let seat = self.seat();
+        self.by('f', p, seat);
     }
 
     pub fn acquire(&mut self, p: u16) {
-        self.command('a', p);
+        let seat = self.seat();
+        self.by('a', p, seat);
     }
 
+    /// Releases P, mostly by a seat that has a hold on it if one has.
     pub fn release(&mut self, p: u16) {
-        self.command('r', p);
+        let seat = match self.owner(p) {
+            Some(owner) if self.seats == 1 || !self.random.once_in(8) => owner,
+            _ => self.seat(),
+        };
+        self.by('r', p, seat);
+    }
+
+    /// One of the seats that have a hold on P.
+    pub fn owner(&mut self, p: u16) -> Option<u16> {
+        let lines = self.pieces.register.iter().filter(|line| line.piece == p);
+        let seats: Vec<u16> = lines.map(|line| line.seat).collect();
+        (!seats.is_empty()).then(|| self.random.pick(&seats))
+    }
+
+    /// One of the used lines of the register.
+    pub fn one_line(&mut self) -> Option<Line> {
+        let lines = &self.pieces.register;
+        (!lines.is_empty()).then(|| self.random.pick(lines))
     }
 
     pub fn bin(&mut self, p: u16) {
@@ -98,7 +135,8 @@ impl Author {
     }
 
     pub fn one_held(&mut self) -> Option<u16> {
-        self.one(|pieces, p| pieces.holds[p] > 0)
+        let holds = self.pieces.holds();
+        self.one(|_, p| holds[p] > 0)
     }
 
     /// A link place.
@@ -112,7 +150,7 @@ impl Author {
     }
 
     /// The holds of P.
-    pub fn holds(&self, p: u16) -> u16 {
-        self.pieces.holds[usize::from(p)]
+    pub fn holds(&self, p: u16) -> u32 {
+        self.pieces.holds()[usize::from(p)]
     }
 }

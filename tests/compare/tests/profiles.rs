@@ -1,8 +1,12 @@
 //! Every profile gives what it is named for, and a difference is told.
 
-use compare::account::{difference, Figures};
+use compare::account::{difference, Figures, REFUSALS};
 use compare::profiles::{trace, PROFILES};
-use independent::trace::{lines, run};
+use independent::line::{read, Command};
+use independent::pieces::Pieces;
+use independent::register::Line;
+use independent::tables::CAPACITY;
+use independent::trace::{answer, lines, run};
 
 /// The figures of some traces of a profile.
 fn figures(name: &str) -> Figures {
@@ -24,8 +28,10 @@ fn a_seed_gives_one_trace() {
 
 #[test]
 fn every_refusal_that_a_trace_can_give_is_given() {
-    let figures = figures("every refusal");
-    assert!((3..=9).all(|refusal| figures.refused[refusal] > 0), "{figures}");
+    let mut all = figures("every refusal");
+    assert!(all.refused[13] > 10 && all.refused[12] > 10, "{all}");
+    all.join(&figures("a full register"));
+    assert!(REFUSALS.iter().all(|&refusal| all.refused[refusal] > 10), "{all}");
 }
 
 #[test]
@@ -53,6 +59,42 @@ fn most_lines_of_the_shapes_are_accepted() {
 fn holds_reach_the_limit() {
     let figures = figures("holds up to 1,000");
     assert!(figures.refused[6] > 1 && figures.lines > 4_000, "{figures}");
+}
+
+#[test]
+fn seats_meet() {
+    for name in ["many seats", "shapes by many seats"] {
+        let figures = figures(name);
+        assert!(figures.refused[13] > 30 && figures.freed > 50, "{name}: {figures}");
+    }
+    let full = figures("a full register");
+    assert!(full.refused[14] > 300 && full.refused[6] > 100, "{full}");
+}
+
+/// The seat that a line names.
+fn seat(line: &[u8]) -> Option<u16> {
+    match read(line)? {
+        Command::Freeze(_, seat) | Command::Acquire(_, seat) | Command::Release(_, seat) => {
+            Some(seat)
+        }
+        _ => None,
+    }
+}
+
+#[test]
+fn no_line_changes_the_lines_of_a_seat_that_it_does_not_name() {
+    for profile in PROFILES.iter().filter(|profile| profile.traces == 1) {
+        let mut pieces = Pieces::empty(CAPACITY);
+        for line in lines(&trace(profile, 1)) {
+            let others = |pieces: &Pieces| -> Vec<Line> {
+                let lines = pieces.register.iter().copied();
+                lines.filter(|other| Some(other.seat) != seat(line)).collect()
+            };
+            let before = others(&pieces);
+            answer(&mut pieces, line);
+            assert_eq!(before, others(&pieces), "{}: {}", profile.name, line.escape_ascii());
+        }
+    }
 }
 
 #[test]

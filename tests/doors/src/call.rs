@@ -12,9 +12,9 @@ pub enum Call {
     Start,
     New,
     Set(u16, u16, u16),
-    Freeze(u16),
-    Acquire(u16),
-    Release(u16),
+    Freeze(u16, u16),
+    Acquire(u16, u16),
+    Release(u16, u16),
     Bin(u16),
     Look(u16),
     Check,
@@ -27,31 +27,31 @@ pub fn by_independent(call: Call, tables: &mut Tables) -> u64 {
         Call::Start => calls::start(&mut store),
         Call::New => calls::new(&mut store, list, work),
         Call::Set(p, k, t) => calls::set(&mut store, list, work, p, k, t),
-        Call::Freeze(p) => calls::freeze(&mut store, list, work, p),
-        Call::Acquire(p) => calls::acquire(&mut store, list, work, p),
-        Call::Release(p) => calls::release(&mut store, list, work, p),
+        Call::Freeze(p, seat) => calls::freeze(&mut store, list, work, p, seat),
+        Call::Acquire(p, seat) => calls::acquire(&mut store, list, work, p, seat),
+        Call::Release(p, seat) => calls::release(&mut store, list, work, p, seat),
         Call::Bin(p) => calls::bin(&mut store, list, work, p),
         Call::Look(p) => return packed_look(calls::look(&store, work, p)),
         Call::Check => return packed_check(calls::check(&store, work)),
     })
 }
 
-/// The number of the call's C function in a request, and P, K and T.
+/// The number of the call's C function in a request, and its numbers.
 fn numbers(call: Call) -> (u8, [u16; 3]) {
     match call {
         Call::Start => (1, [0; 3]),
         Call::New => (2, [0; 3]),
         Call::Set(p, k, t) => (3, [p, k, t]),
-        Call::Freeze(p) => (4, [p, 0, 0]),
-        Call::Acquire(p) => (5, [p, 0, 0]),
-        Call::Release(p) => (6, [p, 0, 0]),
+        Call::Freeze(p, seat) => (4, [p, seat, 0]),
+        Call::Acquire(p, seat) => (5, [p, seat, 0]),
+        Call::Release(p, seat) => (6, [p, seat, 0]),
         Call::Bin(p) => (7, [p, 0, 0]),
         Call::Look(p) => (8, [p, 0, 0]),
         Call::Check => (9, [0; 3]),
     }
 }
 
-/// The head of a request: the function's number, N, P, K and T.
+/// The head of a request: the function's number, N, and the call's numbers.
 pub fn head(function: u8, n: usize, numbers: [u16; 3]) -> Vec<u8> {
     let mut request = vec![function];
     request.extend((n as u64).to_le_bytes());
@@ -68,6 +68,7 @@ pub fn request(call: Call, tables: &Tables) -> Vec<u8> {
     put(&mut request, &tables.leaders);
     put(&mut request, &tables.holds);
     put(&mut request, &tables.counts);
+    put(&mut request, &tables.register);
     put(&mut request, &tables.list);
     put(&mut request, &tables.work);
     request
@@ -87,6 +88,7 @@ pub fn left(answer: &mut dyn Read, lent: &Tables) -> io::Result<Option<Tables>> 
     let leaders = take(answer, lent.leaders.len())?;
     let holds = take(answer, lent.holds.len())?;
     let counts = take(answer, lent.counts.len())?;
+    let register = take(answer, lent.register.len())?;
     let list = take(answer, lent.list.len())?;
     let work = take(answer, lent.work.len())?;
     let whole = || {
@@ -97,6 +99,7 @@ pub fn left(answer: &mut dyn Read, lent: &Tables) -> io::Result<Option<Tables>> 
             leaders: leaders?,
             holds: holds?,
             counts: counts?,
+            register: register?,
             list: list?,
             work: work?,
         })

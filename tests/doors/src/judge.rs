@@ -10,6 +10,9 @@ use std::io::{self, Read};
 /// The answer of an accepted check that says yes.
 pub const YES: u64 = 1 << 16;
 
+/// The refusals, in the rulebook's order.
+const REFUSALS: [usize; 14] = [1, 2, 12, 3, 4, 5, 6, 14, 7, 13, 8, 9, 10, 11];
+
 /// What has been compared so far under one heading.
 pub struct Judge<'a> {
     pub door: &'a mut Door,
@@ -18,7 +21,7 @@ pub struct Judge<'a> {
     pub tables: usize,
     pub calls: usize,
     /// Calls by their refusal number, 0 for accepted.
-    pub refused: [usize; 12],
+    pub refused: [usize; 15],
 }
 
 /// The first entry of an area that differs, in words.
@@ -34,14 +37,17 @@ fn areas(wanted: &Tables, got: &Tables) -> Option<String> {
         .or_else(|| area("leaders", &wanted.leaders, &got.leaders))
         .or_else(|| area("holds", &wanted.holds, &got.holds))
         .or_else(|| area("counts", &wanted.counts, &got.counts))
+        .or_else(|| area("register", &wanted.register, &got.register))
         .or_else(|| area("list", &wanted.list, &got.list))
         .or_else(|| area("work", &wanted.work, &got.work))
 }
 
-/// The tables in words, but for those of a large store.
+/// The tables in words, but for those of a large store; of the register without the zeros at its end.
 fn told(tables: &Tables) -> String {
     if tables.states.len() <= 16 {
-        format!("{tables:?}")
+        let end = tables.register.iter().rposition(|&entry| entry > 0).map_or(0, |last| last + 1);
+        let register = tables.register[..end].to_vec();
+        format!("{:?}", Tables { register, ..tables.clone() })
     } else {
         format!("N = {}", tables.n)
     }
@@ -68,7 +74,7 @@ fn difference(
 
 impl<'a> Judge<'a> {
     pub fn new(door: &'a mut Door) -> Judge<'a> {
-        Judge { door, name: "", tables: 0, calls: 0, refused: [0; 12] }
+        Judge { door, name: "", tables: 0, calls: 0, refused: [0; 15] }
     }
 
     /// Makes the call on the tables, by the door later; an account of a difference found so far.
@@ -111,7 +117,8 @@ impl<'a> Judge<'a> {
 
 impl fmt::Display for Judge<'_> {
     fn fmt(&self, f: &mut fmt::Formatter) -> fmt::Result {
-        let refused: Vec<String> = (1..=11).map(|r| format!("{r}:{}", self.refused[r])).collect();
+        let refused: Vec<String> =
+            REFUSALS.iter().map(|&r| format!("{r}:{}", self.refused[r])).collect();
         let (tables, calls, refused) = (self.tables, self.calls, refused.join(" "));
         write!(f, "{tables:7} tables {calls:8} calls, refused {refused}")
     }

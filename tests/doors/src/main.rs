@@ -1,5 +1,6 @@
 //! Compares the C functions with the independent program, over sound and spoiled tables.
 
+mod any;
 mod call;
 mod door;
 mod fuzz;
@@ -12,6 +13,7 @@ mod sequences;
 mod single;
 mod spoiled;
 mod stores;
+mod unregistered;
 
 use compare::random::Random;
 use door::Door;
@@ -28,6 +30,7 @@ type Phase = (&'static str, usize, fn(&mut Random, &mut Judge) -> Result<(), Str
 const PHASES: &[Phase] = &[
     ("calls one after the other", 10, sequences::sequences),
     ("holds up to the limit", 1, sequences::limit),
+    ("a register that is full", 3, sequences::register),
     ("calls on large stores", 1, sequences::large),
     ("chains and rings let go", 1, sequences::chains),
     ("single entries changed", 20, spoiled::singles),

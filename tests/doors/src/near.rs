@@ -1,17 +1,18 @@
 //! Tables that are unsound in one respect, by name.
 
 use crate::stores::define;
+use crate::unregistered::UNREGISTERED;
 use compare::random::Random;
 use independent::tables::{Tables, DRAFT, FREE, FROZEN, NONE};
 
 /// One of the pieces of which something holds.
-fn one(random: &mut Random, n: usize, holds: impl Fn(usize) -> bool) -> Option<usize> {
+pub fn one(random: &mut Random, n: usize, holds: impl Fn(usize) -> bool) -> Option<usize> {
     let all: Vec<usize> = (0..n).filter(|&p| holds(p)).collect();
     (!all.is_empty()).then(|| random.pick(&all))
 }
 
 /// One of the pieces in the given state.
-fn in_state(random: &mut Random, t: &Tables, state: u8) -> Option<usize> {
+pub fn in_state(random: &mut Random, t: &Tables, state: u8) -> Option<usize> {
     one(random, t.n, |p| t.states[p] == state)
 }
 
@@ -42,7 +43,12 @@ fn link(t: &mut Tables, p: usize, q: usize) -> Option<()> {
 /// A change that makes sound tables unsound in one respect, none if they have no place for it.
 pub type Spoil = fn(&mut Tables, &mut Random) -> Option<()>;
 
-pub const NEAR_MISSES: &[(&str, Spoil)] = &[
+/// All near misses: of the other tables, then of the register.
+pub fn near_misses() -> impl Iterator<Item = &'static (&'static str, Spoil)> {
+    NEAR_MISSES.iter().chain(UNREGISTERED)
+}
+
+const NEAR_MISSES: &[(&str, Spoil)] = &[
     ("state 3", |t, r| one(r, t.n, |_| true).map(|p| t.states[p] = 3)),
     ("a free piece with a link", |t, r| {
         let (p, q) = (in_state(r, t, FREE)?, one(r, t.n, |_| true)?);
@@ -71,12 +77,6 @@ pub const NEAR_MISSES: &[(&str, Spoil)] = &[
     ("a frozen piece's link to a draft", |t, r| {
         let (p, q) = (in_state(r, t, FROZEN)?, in_state(r, t, DRAFT)?);
         link(t, p, q)
-    }),
-    ("1,001 holds", |t, r| {
-        let p = in_state(r, t, FROZEN)?;
-        t.counts[usize::from(t.leaders[p])] += 1_001 - u32::from(t.holds[p]);
-        t.holds[p] = 1_001;
-        Some(())
     }),
     ("a leader that is a member but not the lowest", |t, r| {
         let p = led(r, t)?;
@@ -121,6 +121,6 @@ fn keep_by_nobody(t: &mut Tables) {
         t.states[p] = FREE;
         t.links[4 * p..4 * p + 4].fill(NONE);
     }
-    t.holds.fill(0);
+    t.register.fill(0);
     define(t);
 }

@@ -1,6 +1,6 @@
 //! Tables with a single entry changed.
 
-use independent::tables::{Tables, NONE};
+use independent::tables::{Tables, LINE, NONE};
 
 /// Every copy of the tables with one entry of the store changed to a telling value.
 pub fn single(
@@ -26,7 +26,19 @@ pub fn single(
     {
         each(Tables { counts: with(&tables.counts, entry, value), ..tables.clone() })?;
     }
+    let values = [0, 1, 2, 3, n - 1, n, 31, 32, 999, 1_000, 1_001, 65_535];
+    for (entry, value) in telling(&tables.register).into_iter().flat_map(|i| values.map(|v| (i, v)))
+    {
+        each(Tables { register: with(&tables.register, entry, value), ..tables.clone() })?;
+    }
     Ok(())
+}
+
+/// The entries of the first lines of a register, of the line behind the used ones, and of the last.
+fn telling(register: &[u16]) -> Vec<usize> {
+    let used = register.chunks(LINE).take_while(|line| line[2] > 0).count();
+    let last = register.len() - LINE..register.len();
+    (0..LINE * used.min(4)).chain(LINE * used..LINE * (used + 1)).chain(last).collect()
 }
 
 /// Every entry with every value.

@@ -1,12 +1,13 @@
 //! Calls on tables that are spoiled: in one entry, in one respect, altogether, or in their lengths.
 
+use crate::any::{any_call, nine};
 use crate::call::Call;
 use crate::judge::{Judge, YES};
-use crate::near::NEAR_MISSES;
+use crate::near;
 use crate::single::single;
-use crate::stores::{any_call, empty, nine, sound};
+use crate::stores::{empty, sound};
 use compare::random::Random;
-use independent::tables::Tables;
+use independent::tables::{Tables, LINE, LINES};
 
 /// Sound stores with every single entry changed to each telling value.
 pub fn singles(random: &mut Random, judge: &mut Judge) -> Result<(), String> {
@@ -21,7 +22,7 @@ pub fn singles(random: &mut Random, judge: &mut Judge) -> Result<(), String> {
 
 /// Sound stores made unsound in one respect.
 pub fn near_misses(random: &mut Random, judge: &mut Judge) -> Result<(), String> {
-    for (name, spoil) in NEAR_MISSES {
+    for (name, spoil) in near::near_misses() {
         let mut tables = sound(random, 1);
         while spoil(&mut tables, random).is_none() {
             let n = random.from(2, 8);
@@ -51,6 +52,12 @@ pub fn junk(random: &mut Random, judge: &mut Judge) -> Result<(), String> {
                 random.pick(&[65_535, 65_535, 0, p as u16, n as u16 - 1, n as u16, 65_534]);
         }
     }
+    for line in tables.register.chunks_mut(LINE).take(random.below(8)) {
+        let any = random.below(n) as u16;
+        line[0] = random.pick(&[0, 0, 1, 2, 31, 32]);
+        line[1] = random.pick(&[any, any, n as u16 - 1, n as u16]);
+        line[2] = random.pick(&[0, 1, 1, 2, 1_000, 1_001]);
+    }
     if random.once_in(3) {
         let any = random.bits();
         tables.links.iter_mut().for_each(|link| *link ^= (random.bits() & any) as u16);
@@ -60,13 +67,14 @@ pub fn junk(random: &mut Random, judge: &mut Judge) -> Result<(), String> {
     judge.each(&tables, &calls)
 }
 
-/// Makes one of the seven areas of another length, in the rulebook's order.
-const RESIZES: [fn(&mut Tables, usize); 7] = [
+/// Makes one of the eight areas of another length, in the rulebook's order.
+const RESIZES: [fn(&mut Tables, usize); 8] = [
     |tables, length| tables.states.resize(length, 0),
     |tables, length| tables.links.resize(length, 65_535),
     |tables, length| tables.leaders.resize(length, 65_535),
     |tables, length| tables.holds.resize(length, 0),
     |tables, length| tables.counts.resize(length, 0),
+    |tables, length| tables.register.resize(length, 0),
     |tables, length| tables.list.resize(length, 9),
     |tables, length| tables.work.resize(length, 9),
 ];
@@ -75,7 +83,7 @@ const RESIZES: [fn(&mut Tables, usize); 7] = [
 pub fn sizes(random: &mut Random, judge: &mut Judge) -> Result<(), String> {
     let n = random.from(1, 5);
     let good = sound(random, n);
-    for (resize, right) in RESIZES.iter().zip([n, 4 * n, n, n, n, n, 8 * n]) {
+    for (resize, right) in RESIZES.iter().zip([n, 4 * n, n, n, n, LINE * LINES, n, 8 * n]) {
         for length in [0, right - 1, right, right + 1, 2 * right] {
             let mut tables = good.clone();
             resize(&mut tables, length);

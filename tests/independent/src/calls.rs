@@ -2,6 +2,7 @@
 
 use crate::commands::{Accepted, Seen};
 use crate::pieces::Pieces;
+use crate::register::area;
 use crate::sound::{leaders_and_counts, sound};
 use crate::tables::{Refusal, Store, FREE, NONE};
 
@@ -32,14 +33,16 @@ fn refused(refusal: Refusal) -> Answer {
     Answer { refusal: refusal as u8, value: NONE, freed: 0 }
 }
 
-/// Writes the pieces, their leaders and their counts into the tables.
+/// Writes the pieces, their leaders, holds and counts into the tables.
 fn write(pieces: &Pieces, store: &mut Store) {
     let (leaders, counts) = leaders_and_counts(pieces);
+    let holds: Vec<u16> = pieces.holds().iter().map(|&holds| holds as u16).collect();
     store.states.copy_from_slice(&pieces.states);
     store.links.copy_from_slice(&pieces.links.concat());
     store.leaders.copy_from_slice(&leaders);
-    store.holds.copy_from_slice(&pieces.holds);
+    store.holds.copy_from_slice(&holds);
     store.counts.copy_from_slice(&counts);
+    store.register.copy_from_slice(&area(&pieces.register));
 }
 
 /// The store's pieces if it has its sizes and is sound; clears the first 8N entries of work.
@@ -99,19 +102,19 @@ pub fn set(
     call(store, list, work, |pieces| pieces.set(p, k, t))
 }
 
-/// P and every draft it reaches become frozen; P gets one hold.
-pub fn freeze(store: &mut Store, list: &mut [u16], work: &mut [u32], p: u16) -> Answer {
-    call(store, list, work, |pieces| pieces.freeze(p))
+/// P and every draft it reaches become frozen; P gets one hold of the seat's.
+pub fn freeze(store: &mut Store, list: &mut [u16], work: &mut [u32], p: u16, seat: u16) -> Answer {
+    call(store, list, work, |pieces| pieces.freeze(p, seat))
 }
 
-/// One hold more on frozen P.
-pub fn acquire(store: &mut Store, list: &mut [u16], work: &mut [u32], p: u16) -> Answer {
-    call(store, list, work, |pieces| pieces.acquire(p))
+/// One hold of the seat's more on frozen P.
+pub fn acquire(store: &mut Store, list: &mut [u16], work: &mut [u32], p: u16, seat: u16) -> Answer {
+    call(store, list, work, |pieces| pieces.acquire(p, seat))
 }
 
-/// One hold less on frozen P.
-pub fn release(store: &mut Store, list: &mut [u16], work: &mut [u32], p: u16) -> Answer {
-    call(store, list, work, |pieces| pieces.release(p))
+/// One hold of the seat's less on frozen P.
+pub fn release(store: &mut Store, list: &mut [u16], work: &mut [u32], p: u16, seat: u16) -> Answer {
+    call(store, list, work, |pieces| pieces.release(p, seat))
 }
 
 /// Draft P becomes free.

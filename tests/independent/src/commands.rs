@@ -1,6 +1,7 @@
-//! The commands on the pieces of a sound store, with refusals 3 to 9 in their order.
+//! The commands on the pieces of a sound store, with their refusals in the rulebook's order.
 
 use crate::pieces::Pieces;
+use crate::register::seated;
 use crate::tables::{Refusal, DRAFT, FREE, FROZEN, HOLDS, LINKS, NONE};
 
 /// What an accepted command gives: its value and the numbers freed, ascending.
@@ -48,7 +49,6 @@ impl Pieces {
     fn clear(&mut self, p: usize) {
         self.states[p] = FREE;
         self.links[p] = [NONE; LINKS];
-        self.holds[p] = 0;
     }
 
     /// Every frozen piece no longer kept becomes free; these are the freed.
@@ -82,37 +82,42 @@ impl Pieces {
         self.settle()
     }
 
-    /// P and every draft it reaches become frozen; P gets one hold.
-    pub fn freeze(&mut self, p: u16) -> Result<Accepted, Refusal> {
+    /// P and every draft it reaches become frozen; P gets one hold of the seat's.
+    pub fn freeze(&mut self, p: u16, seat: u16) -> Result<Accepted, Refusal> {
+        seated(seat)?;
         let start = self.live(p)?;
         if self.states[start] == FROZEN {
-            return self.acquire(p);
+            return self.acquire(p, seat);
         }
+        self.room(start, seat)?;
         for (q, reached) in self.reached(vec![start]).into_iter().enumerate() {
             if reached {
                 self.states[q] = FROZEN;
             }
         }
-        self.acquire(p)
+        self.acquire(p, seat)
     }
 
-    /// One hold more on frozen P.
-    pub fn acquire(&mut self, p: u16) -> Result<Accepted, Refusal> {
+    /// One hold of the seat's more on frozen P.
+    pub fn acquire(&mut self, p: u16, seat: u16) -> Result<Accepted, Refusal> {
+        seated(seat)?;
         let p = self.live_in(FROZEN, p)?;
-        if self.holds[p] == HOLDS {
+        if self.holds()[p] == u32::from(HOLDS) {
             return Err(Refusal::Limit);
         }
-        self.holds[p] += 1;
+        self.room(p, seat)?;
+        self.one_more(p, seat);
         nothing()
     }
 
-    /// One hold less on frozen P.
-    pub fn release(&mut self, p: u16) -> Result<Accepted, Refusal> {
+    /// One hold of the seat's less on frozen P.
+    pub fn release(&mut self, p: u16, seat: u16) -> Result<Accepted, Refusal> {
+        seated(seat)?;
         let p = self.live_in(FROZEN, p)?;
-        if self.holds[p] == 0 {
+        if self.holds()[p] == 0 {
             return Err(Refusal::NotHeld);
         }
-        self.holds[p] -= 1;
+        self.one_less(p, seat)?;
         self.settle()
     }
 
@@ -136,6 +141,6 @@ impl Pieces {
         let namers = self.namers();
         let group = self.group(p, &namers);
         let (leader, count) = (self.leader(&group), self.count(&group, &namers));
-        Ok(Seen { state: FROZEN, leader, count, holds: self.holds[p] })
+        Ok(Seen { state: FROZEN, leader, count, holds: self.holds()[p] as u16 })
     }
 }

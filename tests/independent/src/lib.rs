@@ -1,12 +1,13 @@
 //! The rulebook done by brute force.
 //!
-//! Only states, links and holds are believed. Groups, leaders, counts and what
-//! is kept are worked out from their definitions each time they are asked for.
+//! Only states, links and the register are believed. Holds, groups, leaders, counts and
+//! what is kept are worked out from their definitions each time they are asked for.
 
 pub mod calls;
 pub mod commands;
 pub mod line;
 pub mod pieces;
+pub mod register;
 pub mod sound;
 pub mod tables;
 pub mod trace;

@@ -10,9 +10,9 @@ const LINE: usize = 64;
 pub enum Command {
     New,
     Set(u16, u16, u16),
-    Freeze(u16),
-    Acquire(u16),
-    Release(u16),
+    Freeze(u16, u16),
+    Acquire(u16, u16),
+    Release(u16, u16),
     Bin(u16),
     Look(u16),
 }
@@ -35,6 +35,9 @@ fn target(word: &[u8]) -> Option<u16> {
     }
 }
 
+/// The seat that acts where a line names none.
+const NO_SEAT: u16 = 0;
+
 /// The command of a line, none if the line is bad.
 pub fn read(line: &[u8]) -> Option<Command> {
     if line.len() > LINE {
@@ -44,9 +47,12 @@ pub fn read(line: &[u8]) -> Option<Command> {
     match words[..] {
         [b"n"] => Some(Command::New),
         [b"s", p, k, t] => Some(Command::Set(number(p)?, number(k)?, target(t)?)),
-        [b"f", p] => Some(Command::Freeze(number(p)?)),
-        [b"a", p] => Some(Command::Acquire(number(p)?)),
-        [b"r", p] => Some(Command::Release(number(p)?)),
+        [b"f", p] => Some(Command::Freeze(number(p)?, NO_SEAT)),
+        [b"f", p, seat] => Some(Command::Freeze(number(p)?, number(seat)?)),
+        [b"a", p] => Some(Command::Acquire(number(p)?, NO_SEAT)),
+        [b"a", p, seat] => Some(Command::Acquire(number(p)?, number(seat)?)),
+        [b"r", p] => Some(Command::Release(number(p)?, NO_SEAT)),
+        [b"r", p, seat] => Some(Command::Release(number(p)?, number(seat)?)),
         [b"b", p] => Some(Command::Bin(number(p)?)),
         [b"l", p] => Some(Command::Look(number(p)?)),
         _ => None,

@@ -1,13 +1,15 @@
 //! Reach, group, leader, count and kept, as the rulebook defines them.
 
+use crate::register::{used, Line};
 use crate::tables::{Store, DRAFT, FREE, FROZEN, LINKS, NONE};
 
-/// What the commands change: states, links and holds. All else follows from them.
+/// What the commands change: states, links and the used lines of the register. All else follows
+/// from them.
 #[derive(Clone, Debug, PartialEq, Eq)]
 pub struct Pieces {
     pub states: Vec<u8>,
     pub links: Vec<[u16; LINKS]>,
-    pub holds: Vec<u16>,
+    pub register: Vec<Line>,
 }
 
 /// For each piece, the pieces with a link to it, once for each link place.
@@ -32,7 +34,7 @@ where
 impl Pieces {
     /// N free pieces.
     pub fn empty(n: usize) -> Pieces {
-        Pieces { states: vec![FREE; n], links: vec![[NONE; LINKS]; n], holds: vec![0; n] }
+        Pieces { states: vec![FREE; n], links: vec![[NONE; LINKS]; n], register: Vec::new() }
     }
 
     /// The pieces of a store whose areas have their lengths.
@@ -44,7 +46,7 @@ impl Pieces {
                 .chunks(LINKS)
                 .map(|four| [four[0], four[1], four[2], four[3]])
                 .collect(),
-            holds: store.holds.to_vec(),
+            register: used(store),
         }
     }
 
@@ -109,14 +111,16 @@ impl Pieces {
     pub fn count(&self, group: &[usize], namers: &Namers) -> u32 {
         let mut inside = vec![false; self.n()];
         group.iter().for_each(|&q| inside[q] = true);
-        let holds: u32 = group.iter().map(|&q| u32::from(self.holds[q])).sum();
+        let holds = self.holds();
+        let held: u32 = group.iter().map(|&q| holds[q]).sum();
         let outside = |q: &usize| namers[*q].iter().filter(|&&p| !inside[p]).count() as u32;
-        holds + group.iter().map(outside).sum::<u32>()
+        held + group.iter().map(outside).sum::<u32>()
     }
 
     /// What is kept: reached from a draft, or from a frozen piece with a hold.
     pub fn kept(&self) -> Vec<bool> {
-        let held = self.in_state(FROZEN).filter(|&p| self.holds[p] > 0);
+        let holds = self.holds();
+        let held = self.in_state(FROZEN).filter(|&p| holds[p] > 0);
         self.reached(self.in_state(DRAFT).chain(held).collect())
     }
 }

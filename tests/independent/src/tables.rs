@@ -6,6 +6,12 @@ pub const CAPACITY: usize = 1_024;
 pub const LINKS: usize = 4;
 /// Holds a piece, at most.
 pub const HOLDS: u16 = 1_000;
+/// Seats, 0 to 31.
+pub const SEATS: u16 = 32;
+/// Lines of the register.
+pub const LINES: usize = 1_024;
+/// Entries of a line: seat, piece, number.
+pub const LINE: usize = 3;
 /// Bytes of a trace lent in memory, at most.
 pub const LENT: usize = 65_536;
 /// The mark for none.
@@ -16,23 +22,26 @@ pub const FREE: u8 = 0;
 pub const DRAFT: u8 = 1;
 pub const FROZEN: u8 = 2;
 
-/// The refusal numbers, in the rulebook's order.
+/// The refusals, in the rulebook's order, with their numbers.
 #[derive(Clone, Copy, Debug, PartialEq, Eq)]
 pub enum Refusal {
     Size = 1,
-    Unsound,
-    Number,
-    Free,
-    State,
-    Limit,
-    NotHeld,
-    Linked,
-    Full,
-    Long,
-    Room,
+    Unsound = 2,
+    Seat = 12,
+    Number = 3,
+    Free = 4,
+    State = 5,
+    Limit = 6,
+    Register = 14,
+    NotHeld = 7,
+    NotYours = 13,
+    Linked = 8,
+    Full = 9,
+    Long = 10,
+    Room = 11,
 }
 
-/// A store as it is lent to a call: its capacity and its five areas.
+/// A store as it is lent to a call: its capacity and its six areas.
 pub struct Store<'a> {
     pub n: usize,
     pub states: &'a mut [u8],
@@ -40,6 +49,7 @@ pub struct Store<'a> {
     pub leaders: &'a mut [u16],
     pub holds: &'a mut [u16],
     pub counts: &'a mut [u32],
+    pub register: &'a mut [u16],
 }
 
 impl Store<'_> {
@@ -51,10 +61,11 @@ impl Store<'_> {
             && self.leaders.len() == self.n
             && self.holds.len() == self.n
             && self.counts.len() == self.n
+            && self.register.len() == LINE * LINES
     }
 }
 
-/// All seven areas, owned by whoever lends them.
+/// All eight areas, owned by whoever lends them.
 #[derive(Clone, Debug, PartialEq, Eq)]
 pub struct Tables {
     pub n: usize,
@@ -63,6 +74,7 @@ pub struct Tables {
     pub leaders: Vec<u16>,
     pub holds: Vec<u16>,
     pub counts: Vec<u32>,
+    pub register: Vec<u16>,
     pub list: Vec<u16>,
     pub work: Vec<u32>,
 }
@@ -77,6 +89,7 @@ impl Tables {
             leaders: vec![NONE; n],
             holds: vec![0; n],
             counts: vec![0; n],
+            register: vec![0; LINE * LINES],
             list: vec![0; n],
             work: vec![0; 8 * n],
         }
@@ -91,6 +104,7 @@ impl Tables {
             leaders: &mut self.leaders,
             holds: &mut self.holds,
             counts: &mut self.counts,
+            register: &mut self.register,
         };
         (store, &mut self.list, &mut self.work)
     }

@@ -41,9 +41,9 @@ pub fn answer(pieces: &mut Pieces, line: &[u8]) -> String {
         None => "x".to_string(),
         Some(Command::New) => told(pieces.new_draft()),
         Some(Command::Set(p, k, t)) => told(pieces.set(p, k, t)),
-        Some(Command::Freeze(p)) => told(pieces.freeze(p)),
-        Some(Command::Acquire(p)) => told(pieces.acquire(p)),
-        Some(Command::Release(p)) => told(pieces.release(p)),
+        Some(Command::Freeze(p, seat)) => told(pieces.freeze(p, seat)),
+        Some(Command::Acquire(p, seat)) => told(pieces.acquire(p, seat)),
+        Some(Command::Release(p, seat)) => told(pieces.release(p, seat)),
         Some(Command::Bin(p)) => told(pieces.bin(p)),
         Some(Command::Look(p)) => told_look(pieces.look(p)),
     }

@@ -3,9 +3,11 @@ use Prim.Native.Nat.{ℕ}
 use native.Mathlib.Omega.{arith}
 use borrow.Author.Needs.{needs}
 use lib.ListN.{length-replicate}
-use Rattle.rules.specs.Tables.{empty}
+use Rattle.rules.specs.Limits.{most}
+use Rattle.rules.specs.Tables.{emptyTables, empty}
+use Rattle.reader.specs.Begun.{begun}
 use Rattle.lending.specs.Lent.{lent-full, lent-place, lent-ready, lent-all}
-use Rattle.lending.specs.Begun.{begun, lent-long, lent-short}
+use Rattle.lending.specs.Begun.{lent-long, lent-short}
 use Rattle.lending.proofs.lent_trace.Statement.{statement}
 use Rattle.lending.proofs.lent_trace.Tie as tie
 
@@ -31,8 +33,8 @@ returns c =
     lent-long (asked .args .text .now) (asked .args .room .now) (c .if1 .taken)
 
 pour-all-requires : tie.Need-pour-all-requires
-unfolding empty
-pour-all-requires c κs = (begun, omega (arith, length-replicate {A = ℕ} 8192 0))
+unfolding empty emptyTables
+pour-all-requires c κs = (begun most (omega arith) (omega arith), omega (arith, length-replicate {A = ℕ} 8192 0))
 
 enum-known-place : tie.Need-enum-known-place
 enum-known-place c = search needs
@@ -47,7 +49,7 @@ same-length : tie.Need-same-length
 same-length c = search needs
 
 returns-2 : tie.Need-returns-2
-unfolding empty full short asked
+unfolding empty emptyTables full short asked
 returns-2 c =
     let told : tie.After-enum-told = search in
     let a = asked (short (full told)) .args in
@@ -59,9 +61,9 @@ unfolding written
 close-requires c κs =
     let told : tie.After-known-told = search in
     let sized = lent-ready (written told .pour-all .ensures) (omega (arith, written told .pour-all .kept)) (told .before .place .given .1) .sized in (
-      sized .base .most,
-      sized .base .states,
-      sized .leaders,
+      sized .tables .base .most,
+      sized .tables .base .states,
+      sized .tables .leaders,
       omega (arith, written told .pour-all .kept, length-replicate {A = ℕ} 8192 0),
     )
 
@@ -81,7 +83,7 @@ same-length-2 : tie.Need-same-length-2
 same-length-2 c = search needs
 
 returns-3 : tie.Need-returns-3
-unfolding empty written closed short asked
+unfolding empty emptyTables written closed short asked
 returns-3 c =
     let close : tie.After-close = search in
     let told = closed close in
@@ -95,6 +97,7 @@ lent-trace-spec =
     tie.close
     (tie.spec
     returns
+    (λ c. search needs)
     (λ c. search needs)
     (λ c. search needs)
     (λ c. search needs)

@@ -3,9 +3,11 @@
 -- In the last list `refl` is for an area that the command leaves alone, `search` for one whose length its call keeps.
 use mathlib.Core.Path.{refl}
 use Rattle.rules.specs.Commands.{settles}
+use Rattle.laws.specs.Calls.{ready-tables}
+use Rattle.laws.specs.Verdicts.{bare-did}
 use Rattle.giving.specs.Gave.{giving-of}
 use Rattle.holding.specs.Acquired.{acquiring-of}
-use Rattle.obeying.specs.Freed.{freed-listed}
+use Rattle.obeying.specs.Freed.{freed-listed, tables-listed}
 use Rattle.obeying.specs.Arms.{obeyed-new, obeyed-kept, obeyed-freed, obeyed-bin}
 use Rattle.obeying.proofs.obey.Statement.{statement}
 use Rattle.obeying.proofs.obey.Tie as tie
@@ -16,7 +18,7 @@ enum-told c = c .match .keys1
 new-requires : tie.Need-new-requires
 new-requires c κs =
     let lent : tie.Start = search in
-    giving-of (lent .pre .ready) (lent .pre .small) (lent .pre .none)
+    giving-of (ready-tables (lent .pre .ready)) (lent .pre .small) (lent .pre .none)
 
 above-requires : tie.Need-above-requires
 above-requires c κs = tt
@@ -27,12 +29,12 @@ enum-known-command c = c .match .keys2
 set-link-requires : tie.Need-set-link-requires
 set-link-requires c κs =
     let lent : tie.Start = search in
-    (lent .pre .ready, lent .pre .room)
+    (ready-tables (lent .pre .ready), lent .pre .room)
 
 lower-requires : tie.Need-lower-requires
 lower-requires c κs =
     let done : tie.After-set-link = search in
-    freed-listed (done .set-link .ensures)
+    tables-listed (done .set-link .ensures)
 
 enum-known-command-2 : tie.Need-enum-known-command-2
 enum-known-command-2 c = c .match .keys3
@@ -69,12 +71,12 @@ enum-known-command-5 c = c .match .keys6
 bin-requires : tie.Need-bin-requires
 bin-requires c κs =
     let lent : tie.Start = search in
-    (lent .pre .ready, lent .pre .room)
+    (ready-tables (lent .pre .ready), lent .pre .room)
 
 lower-bin-requires : tie.Need-lower-bin-requires
 lower-bin-requires c κs =
     let done : tie.After-bin = search in
-    freed-listed (done .bin .ensures)
+    tables-listed (done .bin .ensures)
 
 enum-known-command-6 : tie.Need-enum-known-command-6
 enum-known-command-6 c = c .match .keys7
@@ -82,21 +84,21 @@ enum-known-command-6 c = c .match .keys7
 look-requires : tie.Need-look-requires
 look-requires c κs =
     let lent : tie.Start = search in
-    lent .pre .ready
+    ready-tables (lent .pre .ready)
 
 returns : tie.Need-returns
 returns c =
     let done : tie.After-new = search in
     let told : tie.After-enum-told = search in
     let lent : tie.Start = search in
-    obeyed-new (told .enum-told .given .1) (lent .pre) (done .new .ensures .did (lent .pre .ready)) (c .above .ensures)
+    obeyed-new (told .enum-told .given .1) (lent .pre) (bare-did refl (done .new .ensures .did (ready-tables (lent .pre .ready)))) (c .above .ensures)
 
 returns-2 : tie.Need-returns-2
 returns-2 c =
     let done : tie.After-set-link = search in
     let told : tie.After-command = search in
     let lent : tie.Start = search in
-    obeyed-freed (told .command .given .1) refl (lent .pre) (done .set-link .ensures) (c .lower .ensures)
+    obeyed-freed (told .command .given .1) refl (lent .pre) (bare-did refl (done .set-link .ensures)) (c .lower .ensures)
 
 returns-3 : tie.Need-returns-3
 unfolding settles
@@ -126,14 +128,14 @@ returns-6 c =
     let done : tie.After-bin = search in
     let told : tie.After-command5 = search in
     let lent : tie.Start = search in
-    obeyed-bin (told .command5 .given .1) (lent .pre) (done .bin .ensures) (c .lower-bin .ensures)
+    obeyed-bin (told .command5 .given .1) (lent .pre) (bare-did refl (done .bin .ensures)) (c .lower-bin .ensures)
 
 returns-7 : tie.Need-returns-7
 unfolding settles
 returns-7 c =
     let told : tie.After-command6 = search in
     let lent : tie.Start = search in
-    obeyed-kept (told .command6 .given .1) refl (lent .pre) (c .look .ensures) refl
+    obeyed-kept (told .command6 .given .1) refl (lent .pre) (bare-did refl (c .look .ensures)) refl
 
 pub obey-spec : {M : Type 1} → statement M
 obey-spec =
@@ -172,12 +174,15 @@ obey-spec =
     (λ c. search)
     (λ c. search)
     (λ c. search)
+    (λ c. search)
     returns-3
     (λ c. refl)
     (λ c. refl)
     (λ c. search)
     (λ c. search)
+    (λ c. search)
     returns-4
+    (λ c. search)
     (λ c. search)
     (λ c. search)
     (λ c. search)

@@ -12,4 +12,5 @@ pieces-acquire-spec =
     (λ c. search depth 0)
     (λ c. search depth 0)
     (λ c. search depth 0)
+    (λ c. search depth 0)
     (λ c. search packs))

@@ -16,4 +16,5 @@ pieces-release-spec =
     (λ c. search depth 0)
     (λ c. search depth 0)
     (λ c. search depth 0)
+    (λ c. search depth 0)
     (λ c. search packs))

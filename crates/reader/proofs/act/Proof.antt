@@ -36,4 +36,5 @@ act-spec =
     (λ c. search)
     (λ c. search)
     (λ c. search)
+    (λ c. search)
     returns)

@@ -35,6 +35,15 @@ enum-told-10 c = c .match .keys10
 enum-told-11 : tie.Need-enum-told-11
 enum-told-11 c = c .match .keys11
 
+enum-told-12 : tie.Need-enum-told-12
+enum-told-12 c = c .match .keys12
+
+enum-told-13 : tie.Need-enum-told-13
+enum-told-13 c = c .match .keys13
+
+enum-told-14 : tie.Need-enum-told-14
+enum-told-14 c = c .match .keys14
+
 returns : tie.Need-returns
 returns c = rw (c .enum-told .given .1)
 
@@ -68,6 +77,15 @@ returns-10 c = rw (c .enum-told10 .given .1)
 returns-11 : tie.Need-returns-11
 returns-11 c = rw (c .enum-told11 .given .1)
 
+returns-12 : tie.Need-returns-12
+returns-12 c = rw (c .enum-told12 .given .1)
+
+returns-13 : tie.Need-returns-13
+returns-13 c = rw (c .enum-told13 .given .1)
+
+returns-14 : tie.Need-returns-14
+returns-14 c = rw (c .enum-told14 .given .1)
+
 pub refusal-number-spec : {M : Type 1} → statement M
 refusal-number-spec =
     tie.close
@@ -83,6 +101,9 @@ refusal-number-spec =
     enum-told-9
     enum-told-10
     enum-told-11
+    enum-told-12
+    enum-told-13
+    enum-told-14
     returns
     returns-2
     returns-3
@@ -93,4 +114,7 @@ refusal-number-spec =
     returns-8
     returns-9
     returns-10
-    returns-11)
+    returns-11
+    returns-12
+    returns-13
+    returns-14)

@@ -9,8 +9,7 @@ use Rattle.store.proofs.acquire.Statement.{statement}
 use Rattle.store.proofs.acquire.Tie as tie
 
 acquire-requires : tie.Need-acquire-requires
-acquire-requires c κs =
-    acquiring-of (entered-ready (c .before .before .before .before .before .before .enter .ensures) (c .before .before .enum-told3 .given .1))
+acquire-requires c κs = acquiring-of (entered-ready (c .before .before .before .before .before .before .before .enter .ensures) (c .before .before .before .enum-told3 .given .1))
 
 returns : tie.Need-returns
 unfolding refusedBy refusedCall takesList takesWork
@@ -24,9 +23,9 @@ returns-3 : tie.Need-returns-3
 unfolding takesList settles
 returns-3 c =
     let ready = entered-ready
-    (c .before .before .before .before .before .before .before .before .before .before .before .enter .ensures)
-    (c .before .before .before .before .before .before .before .enum-told3 .given .1) in
-    let did = c .before .before .before .before .acquire .ensures .did ready in
+    (c .before .before .before .before .before .before .before .before .before .before .before .before .before .before .enter .ensures)
+    (c .before .before .before .before .before .before .before .before .before .before .enum-told3 .given .1) in
+    let did = c .before .before .before .before .before .before .acquire .ensures .did ready in
     search unlisted-arm
 
 pub acquire-spec : {M : Type 1} → statement M
@@ -40,12 +39,15 @@ acquire-spec =
     acquire-requires
     (λ c. refl)
     (λ c. refl)
+    (λ c. refl)
     (λ c. search depth 0)
     returns
     (λ c. refl)
     (λ c. refl)
+    (λ c. refl)
     (λ c. search depth 0)
     returns-2
+    (λ c. search depth 0)
     (λ c. search depth 0)
     (λ c. search depth 0)
     (λ c. search depth 0)

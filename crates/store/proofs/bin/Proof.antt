@@ -1,15 +1,13 @@
 -- `store::bin` keeps its promise: each arm of how it began cites its law, and each area keeps its length. Assumes nothing.
 use mathlib.Core.Path.{refl}
 use Rattle.rules.specs.Calls.{refusedBy, refusedCall, takesList, takesWork}
-use Rattle.entering.specs.Entered.{entered-listed}
-use Rattle.entering.specs.Calls.{short-arm, flawed-arm, sound-arm}
+use Rattle.entering.specs.Entered.{entered-tables-listed}
+use Rattle.entering.specs.Calls.{short-arm, flawed-arm, tables-arm}
 use Rattle.store.proofs.bin.Statement.{statement}
 use Rattle.store.proofs.bin.Tie as tie
 
 bin-requires : tie.Need-bin-requires
-bin-requires c κs =
-    entered-listed (c .before .before .before .before .before .before .before .before .before .enter .ensures)
-    (c .before .before .before .before .before .enum-told3 .given .1)
+bin-requires c κs = entered-tables-listed (c .before .before .before .before .before .before .before .before .before .enter .ensures) (c .before .before .before .before .before .enum-told3 .given .1)
 
 returns : tie.Need-returns
 unfolding refusedBy refusedCall takesList takesWork
@@ -21,7 +19,7 @@ returns-2 c = search flawed-arm
 
 returns-3 : tie.Need-returns-3
 unfolding takesList
-returns-3 c = search sound-arm
+returns-3 c = search tables-arm
 
 pub bin-spec : {M : Type 1} → statement M
 bin-spec =

@@ -10,8 +10,8 @@ use Rattle.store.proofs.freeze.Tie as tie
 
 freeze-requires : tie.Need-freeze-requires
 freeze-requires c κs =
-    entered-clear (c .before .before .before .before .before .before .before .before .before .enter .ensures)
-    (c .before .before .before .before .before .enum-told3 .given .1)
+    entered-clear (c .before .before .before .before .before .before .before .before .before .before .enter .ensures)
+    (c .before .before .before .before .before .before .enum-told3 .given .1)
 
 returns : tie.Need-returns
 unfolding refusedBy refusedCall takesList takesWork
@@ -38,14 +38,17 @@ freeze-spec =
     (λ c. refl)
     (λ c. refl)
     (λ c. refl)
+    (λ c. refl)
     (λ c. search depth 0)
     returns
     (λ c. refl)
     (λ c. refl)
     (λ c. refl)
     (λ c. refl)
+    (λ c. refl)
     (λ c. search depth 0)
     returns-2
+    (λ c. search depth 0)
     (λ c. search depth 0)
     (λ c. search depth 0)
     (λ c. search depth 0)

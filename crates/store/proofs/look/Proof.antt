@@ -1,12 +1,12 @@
 -- `store::look` keeps its promise: each arm of how it began cites its law, and each area keeps its length. Assumes nothing.
 use Rattle.rules.specs.Calls.{refusedBy, refusedCall, takesList, takesWork}
-use Rattle.entering.specs.Entered.{entered-ready}
-use Rattle.entering.specs.Calls.{short-arm, flawed-arm, sound-arm}
+use Rattle.entering.specs.Entered.{entered-tables}
+use Rattle.entering.specs.Calls.{short-arm, flawed-arm, tables-arm}
 use Rattle.store.proofs.look.Statement.{statement}
 use Rattle.store.proofs.look.Tie as tie
 
 look-requires : tie.Need-look-requires
-look-requires c κs = entered-ready (c .before .before .before .before .enter .ensures) (c .enum-told3 .given .1)
+look-requires c κs = entered-tables (c .before .before .before .before .enter .ensures) (c .enum-told3 .given .1)
 
 returns : tie.Need-returns
 unfolding refusedBy refusedCall takesList takesWork
@@ -18,7 +18,7 @@ returns-2 c = search flawed-arm
 
 returns-3 : tie.Need-returns-3
 unfolding takesList
-returns-3 c = search sound-arm
+returns-3 c = search tables-arm
 
 pub look-spec : {M : Type 1} → statement M
 look-spec =

@@ -3,17 +3,17 @@ use mathlib.Core.Path.{refl}
 use Rattle.rules.specs.Commands.{settles}
 use Rattle.rules.specs.Calls.{refusedBy, refusedCall, takesList, takesWork}
 use Rattle.giving.specs.Gave.{giving-of}
-use Rattle.entering.specs.Entered.{entered-ready}
-use Rattle.entering.specs.Calls.{short-arm, flawed-arm, unlisted-arm}
+use Rattle.entering.specs.Entered.{entered-tables}
+use Rattle.entering.specs.Calls.{short-arm, flawed-arm, tables-unlisted-arm}
 use Rattle.store.proofs.new.Statement.{statement}
 use Rattle.store.proofs.new.Tie as tie
 
 none-free-requires : tie.Need-none-free-requires
-none-free-requires c κs = entered-ready (c .before .before .before .before .before .enter .ensures) (c .before .enum-told3 .given .1) .sized .base .states
+none-free-requires c κs = entered-tables (c .before .before .before .before .before .enter .ensures) (c .before .enum-told3 .given .1) .sized .base .states
 
 new-requires : tie.Need-new-requires
 new-requires c κs =
-    giving-of (entered-ready (c .before .before .before .before .before .before .before .enter .ensures) (c .before .before .before .enum-told3 .given .1))
+    giving-of (entered-tables (c .before .before .before .before .before .before .before .enter .ensures) (c .before .before .before .enum-told3 .given .1))
     (c .before .none-free .ensures .0) (c .before .none-free .ensures .1)
 
 returns : tie.Need-returns
@@ -27,11 +27,11 @@ returns-2 c = search flawed-arm
 returns-3 : tie.Need-returns-3
 unfolding takesList settles
 returns-3 c =
-    let ready = entered-ready
+    let ready = entered-tables
     (c .before .before .before .before .before .before .before .before .before .before .enter .ensures)
     (c .before .before .before .before .before .before .enum-told3 .given .1) in
     let did = c .before .before .new .ensures .did ready in
-    search unlisted-arm
+    search tables-unlisted-arm
 
 pub new-spec : {M : Type 1} → statement M
 new-spec =

@@ -8,8 +8,8 @@ use Rattle.store.proofs.release.Tie as tie
 
 release-requires : tie.Need-release-requires
 release-requires c κs =
-    entered-listed (c .before .before .before .before .before .before .before .before .before .before .enter .ensures)
-    (c .before .before .before .before .before .before .enum-told3 .given .1)
+    entered-listed (c .before .before .before .before .before .before .before .before .before .before .before .enter .ensures)
+    (c .before .before .before .before .before .before .before .enum-told3 .given .1)
 
 returns : tie.Need-returns
 unfolding refusedBy refusedCall takesList takesWork
@@ -37,6 +37,7 @@ release-spec =
     (λ c. refl)
     (λ c. refl)
     (λ c. refl)
+    (λ c. refl)
     (λ c. search depth 0)
     returns
     (λ c. refl)
@@ -44,8 +45,10 @@ release-spec =
     (λ c. refl)
     (λ c. refl)
     (λ c. refl)
+    (λ c. refl)
     (λ c. search depth 0)
     returns-2
+    (λ c. search depth 0)
     (λ c. search depth 0)
     (λ c. search depth 0)
     (λ c. search depth 0)

@@ -1,14 +1,14 @@
 -- `store::set` keeps its promise: each arm of how it began cites its law, and each area keeps its length. Assumes nothing.
 use mathlib.Core.Path.{refl}
 use Rattle.rules.specs.Calls.{refusedBy, refusedCall, takesList, takesWork}
-use Rattle.entering.specs.Entered.{entered-listed}
-use Rattle.entering.specs.Calls.{short-arm, flawed-arm, sound-arm}
+use Rattle.entering.specs.Entered.{entered-tables-listed}
+use Rattle.entering.specs.Calls.{short-arm, flawed-arm, tables-arm}
 use Rattle.store.proofs.set.Statement.{statement}
 use Rattle.store.proofs.set.Tie as tie
 
 set-link-requires : tie.Need-set-link-requires
 set-link-requires c κs =
-    entered-listed (c .before .before .before .before .before .before .before .before .before .enter .ensures)
+    entered-tables-listed (c .before .before .before .before .before .before .before .before .before .enter .ensures)
     (c .before .before .before .before .before .enum-told3 .given .1)
 
 returns : tie.Need-returns
@@ -21,7 +21,7 @@ returns-2 c = search flawed-arm
 
 returns-3 : tie.Need-returns-3
 unfolding takesList
-returns-3 c = search sound-arm
+returns-3 c = search tables-arm
 
 pub set-spec : {M : Type 1} → statement M
 set-spec =

@@ -5,7 +5,7 @@ use native.Mathlib.Omega.{arith}
 use borrow.Author.Needs.{needs}
 use lib.ListN.{length, take, length-replicate}
 use Rattle.rules.specs.Limits.{most}
-use Rattle.rules.specs.Tables.{empty, storeOf}
+use Rattle.rules.specs.Tables.{emptyTables, empty, storeOf}
 use Rattle.carrying.specs.Sofar.{Sofar, sofar-none}
 use Rattle.trace.specs.Turned.{Keeps, turned-more, turned-ended}
 use Rattle.trace.specs.Started.{started}
@@ -13,16 +13,18 @@ use Rattle.trace.proofs.run.Statement.{statement}
 use Rattle.trace.proofs.run.Tie as tie
 
 abbrev Inv-loop : tie.InvT-loop
-Inv-loop states₀ links₀ leaders₀ holds₀ counts₀ list₀ work₀ buf₀ out₀ kept₀ from₀ turns₀ states links leaders holds counts list work buf out kept from turns =
-    Keeps (storeOf most states links leaders holds counts) list work buf kept from
-    × Sofar most (storeOf most states links leaders holds counts) (take kept buf)
+Inv-loop states₀ links₀ leaders₀ holds₀ counts₀ register₀ list₀ work₀ buf₀ out₀ kept₀ from₀ turns₀ states links leaders holds counts register list work buf out kept from
+    turns =
+    Keeps (storeOf most states links leaders holds counts register) list work buf kept from
+    × Sofar most (storeOf most states links leaders holds counts register) (take kept buf)
     × ((length list ≡ 1024) × (length work ≡ 8192) × (length buf ≡ 65536) × (length out ≡ 65536))
 
 abbrev μ-loop : tie.MeasureT-loop
-μ-loop states₀ links₀ leaders₀ holds₀ counts₀ list₀ work₀ buf₀ out₀ kept₀ from₀ turns₀ states links leaders holds counts list work buf out kept from turns = turns
+μ-loop states₀ links₀ leaders₀ holds₀ counts₀ register₀ list₀ work₀ buf₀ out₀ kept₀ from₀ turns₀ states links leaders holds counts register list work buf out kept from
+    turns = turns
 
 loop-holds : tie.Need-loop-holds Inv-loop μ-loop
-unfolding empty
+unfolding empty emptyTables
 loop-holds c = (
   started,
   sofar-none most,
@@ -112,12 +114,14 @@ run-spec =
     (λ c. omega arith)
     (λ c. omega arith)
     (λ c. omega arith)
+    (λ c. omega arith)
     turn-requires
     enum-known-next
     sub-turns
     loop-less
     loop-again
     enum-told
+    (λ c. let turned : tie.After-turn Inv-loop μ-loop = search in unfold looped in (omega (arith, turned .turn .kept, looped turned .loop .inv)))
     (λ c. let turned : tie.After-turn Inv-loop μ-loop = search in unfold looped in (omega (arith, turned .turn .kept, looped turned .loop .inv)))
     (λ c. let turned : tie.After-turn Inv-loop μ-loop = search in unfold looped in (omega (arith, turned .turn .kept, looped turned .loop .inv)))
     (λ c. let turned : tie.After-turn Inv-loop μ-loop = search in unfold looped in (omega (arith, turned .turn .kept, looped turned .loop .inv)))

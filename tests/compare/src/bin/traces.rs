@@ -18,6 +18,10 @@ const BYTES: usize = 16 << 20;
 /// The pieces below are frozen in rings of 8, those from it on are drafts.
 const HALF: usize = CAPACITY / 2;
 
+/// The pieces at which all seats have a line in the traces `only ... by 32 seats`: 994 lines are
+/// used.
+const MET: usize = 30;
+
 /// One command or two over and over, by name, with the next line on a full table.
 type Only = (&'static str, fn(&mut Random, &mut Vec<usize>) -> String);
 
@@ -25,6 +29,17 @@ const ONLY: &[Only] = &[
     ("only look", |random, _| format!("l {}", random.below(CAPACITY))),
     ("only acquire and release", |random, held| hold(random, held, "a")),
     ("only freeze again and release", |random, held| hold(random, held, "f")),
+    ("only acquire and release, lines that are there, by 32 seats", |random, held| {
+        let (p, seat) = (8 * random.below(MET), random.from(1, 31));
+        hold_by(random, held, p, seat)
+    }),
+    ("only acquire and release, lines that come and go, by 32 seats", |random, held| {
+        let (p, seat) = (8 * random.from(MET, HALF / 8 - 1), random.from(1, 31));
+        hold_by(random, held, p, seat)
+    }),
+    ("only refused releases, by 32 seats", |random, _| {
+        format!("r {} {}", 8 * random.from(MET, HALF / 8 - 1), random.from(1, 31))
+    }),
     ("only set, to drafts or none", |random, _| {
         let (p, k, t) = (draft(random), random.below(4), draft(random));
         let t = if random.once_in(8) { "-".to_string() } else { t.to_string() };
@@ -68,13 +83,27 @@ fn hold(random: &mut Random, held: &mut Vec<usize>, more: &str) -> String {
     format!("{more} {p}")
 }
 
-/// A full table, half of it frozen, then the lines.
-fn only(next: fn(&mut Random, &mut Vec<usize>) -> String, seed: u64, count: usize) -> Vec<u8> {
+/// One hold more of a seat's on a piece, or one of at most thirty such holds less.
+fn hold_by(random: &mut Random, held: &mut Vec<usize>, p: usize, seat: usize) -> String {
+    if held.len() >= 30 || (!held.is_empty() && random.once_in(2)) {
+        let last = held.swap_remove(random.below(held.len()));
+        return format!("r {} {}", last % CAPACITY, last / CAPACITY);
+    }
+    held.push(seat * CAPACITY + p);
+    format!("a {p} {seat}")
+}
+
+/// A full table, half of it frozen, by seat 0 or by all seats, then the lines.
+fn only((name, next): &Only, seed: u64, count: usize) -> Vec<u8> {
     let mut text = vec!["n".to_string(); CAPACITY];
     for p in 0..HALF {
         text.push(format!("s {p} 0 {}", p / 8 * 8 + (p + 1) % 8));
     }
     text.extend((0..HALF).step_by(8).map(|p| format!("f {p}")));
+    if name.ends_with("by 32 seats") {
+        let met = (0..MET).flat_map(|i| (1..32).map(move |seat| format!("a {} {seat}", 8 * i)));
+        text.extend(met);
+    }
     let (mut random, mut held) = (Random::new(seed), Vec::new());
     text.extend((0..count).map(|_| next(&mut random, &mut held)));
     (text.join("\n") + "\n").into_bytes()
@@ -124,8 +153,8 @@ fn named(name: &str, seed: u64, count: usize) -> Option<Vec<u8>> {
     if let Some(size) = name.strip_prefix("chains of ").and_then(|size| size.parse().ok()) {
         return (1..=CAPACITY).contains(&size).then(|| chains(size, count));
     }
-    if let Some((_, next)) = ONLY.iter().find(|(only, _)| *only == name) {
-        return Some(only(*next, seed, count));
+    if let Some(found) = ONLY.iter().find(|(only, _)| *only == name) {
+        return Some(only(found, seed, count));
     }
     PROFILES.iter().find(|p| p.name == name).map(|found| profile(found, seed, count))
 }

@@ -7,6 +7,7 @@ mod loops;
 mod misses;
 mod mixed;
 mod refusals;
+mod seats;
 mod shapes;
 mod steps;
 
@@ -41,6 +42,9 @@ pub const PROFILES: &[Profile] = &[
     Profile { name: "holds up to 1,000", traces: 1, write: refusals::holds },
     Profile { name: "links set again", traces: 1, write: keepers::set_again },
     Profile { name: "drafts outside a freeze", traces: 1, write: keepers::drafts_outside },
+    Profile { name: "many seats", traces: 1, write: seats::many },
+    Profile { name: "shapes by many seats", traces: 1, write: seats::shapes },
+    Profile { name: "a full register", traces: 1, write: seats::full },
     Profile { name: "near misses", traces: 1, write: misses::near_misses },
     Profile { name: "random bytes", traces: 1, write: misses::random_bytes },
     Profile { name: "long lines", traces: 1, write: ends::long_lines },

@@ -1,5 +1,6 @@
 //! Profiles of refusals and of holds up to their limit.
 
+use super::seats::any_seat;
 use super::shapes::{drafts, freeze_and_look, let_go, ring};
 use super::steps::step;
 use crate::author::Author;
@@ -26,17 +27,19 @@ fn any_command(author: &mut Author) {
     let (p, t) = (any(author), any(author));
     let k = author.random.pick(&[0, 1, 2, 3, 3, 4, 5, 65_535]);
     match author.random.below(6) {
-        0 => author.freeze(p),
-        1 => author.acquire(p),
-        2 => author.release(p),
+        0..=2 => {
+            let (command, seat) = (author.random.pick(&['f', 'a', 'r']), any_seat(author));
+            author.by(command, p, seat);
+        }
         3 => author.bin(p),
         4 => author.look(p),
         _ => author.set(p, k, t),
     }
 }
 
-/// Any commands around a piece with 1,000 holds, at last in a full table.
+/// Any commands around a piece with 1,000 holds of three seats', at last in a full table.
 pub fn refusals(author: &mut Author) {
+    author.seats = 3;
     let pieces = drafts(author, 6);
     ring(author, &pieces[..3], 0);
     author.freeze(pieces[0]);
@@ -46,7 +49,10 @@ pub fn refusals(author: &mut Author) {
         match author.random.below(8) {
             0 => author.acquire(pieces[0]),
             1 => author.freeze(pieces[0]),
-            2 => author.release(pieces[1]),
+            2 => {
+                let (p, seat) = (author.random.pick(&pieces[..2]), author.random.from(1, 4) as u16);
+                author.by('r', p, seat);
+            }
             3 => author.bin(pieces[4]),
             4 => step(author, 12),
             _ => any_command(author),
@@ -68,7 +74,7 @@ pub fn holds(author: &mut Author) {
     ring(author, &pieces, 0);
     freeze_and_look(author, &pieces);
     for &p in &pieces {
-        while author.holds(p) < HOLDS {
+        while author.holds(p) < HOLDS.into() {
             if author.random.once_in(3) {
                 author.freeze(p)
             } else {

@@ -20,7 +20,7 @@ pub unsafe extern "C" fn pieces_trace(
     lent(from_raw_parts(trace, trace_len), from_raw_parts_mut(room, room_len))
 }
 
-/// Defines a C function over the five areas of the store, then some more areas and numbers.
+/// Defines a C function over the six areas of the store, then some more areas and numbers.
 macro_rules! door {
     ($name:ident, [$($area:ident $length:ident $width:ty),*], [$($number:ident),*],
      |$store:ident| $answer:expr) => {
@@ -31,7 +31,7 @@ macro_rules! door {
         pub unsafe extern "C" fn $name(
             n: usize, states: *mut u8, states_len: usize, links: *mut u16, links_len: usize,
             leaders: *mut u16, leaders_len: usize, holds: *mut u16, holds_len: usize,
-            counts: *mut u32, counts_len: usize,
+            counts: *mut u32, counts_len: usize, lines: *mut u16, lines_len: usize,
             $($area: *mut $width, $length: usize,)* $($number: u16),*
         ) -> u64 {
             $(let $area = from_raw_parts_mut($area, $length);)*
@@ -42,6 +42,7 @@ macro_rules! door {
                 leaders: from_raw_parts_mut(leaders, leaders_len),
                 holds: from_raw_parts_mut(holds, holds_len),
                 counts: from_raw_parts_mut(counts, counts_len),
+                register: from_raw_parts_mut(lines, lines_len),
             };
             $answer
         }
@@ -59,9 +60,9 @@ macro_rules! all_areas {
 door!(pieces_start, [], [], |store| packed(calls::start(store)));
 all_areas!(pieces_new, new, []);
 all_areas!(pieces_set, set, [p, k, t]);
-all_areas!(pieces_freeze, freeze, [p]);
-all_areas!(pieces_acquire, acquire, [p]);
-all_areas!(pieces_release, release, [p]);
+all_areas!(pieces_freeze, freeze, [p, seat]);
+all_areas!(pieces_acquire, acquire, [p, seat]);
+all_areas!(pieces_release, release, [p, seat]);
 all_areas!(pieces_bin, bin, [p]);
 door!(pieces_look, [work work_len u32], [p], |store| {
     let calls::Look { refusal, seen } = calls::look(store, work, p);

@@ -12,22 +12,23 @@ use Rattle.rules.specs.Tests.{pick}
 use Rattle.rules.specs.Limits.{most}
 use Rattle.rules.specs.Lists.{Among, Ascending, nil}
 use Rattle.rules.specs.Below.{list}
-use Rattle.rules.specs.Tables.{Base, Store, state, holdsOf, finish, empty}
+use Rattle.rules.specs.Tables.{Base, Store, state, holdsOf, finish, emptyTables}
 use Rattle.rules.specs.Words.{Draft, Frozen, Live, Root, Kept, SizedBase, Well, wfree, wdraft, wfrozen}
-use Rattle.rules.specs.Commands.{accepted, gone, goneList, edit, settles, freedBy, after, nextStore}
+use Rattle.rules.specs.Commands.{accepted, gone, goneList, edit, settles, freedBy, after, nextTables, nextStore}
 use Rattle.rules.specs.Calls.{Call, start, does, check, Areas, Outcome, doneBy, acceptedBy, listing}
 use Rattle.rules.specs.Calls.{cleared, acceptedCall, judge, outcomeOf, Promise}
 use Rattle.rules.specs.History.{Event, event, isAccepted, History, accepting, added, taken, Held, freedIn, listed, Reached, changed, Listing}
 use Rattle.rules.specs.declared.Command.{Command}
 use Rattle.rules.specs.declared.Command.the-variants.{New, Set, Freeze, Acquire, Release, Bin, Look}
 use Rattle.laws.specs.Below.{among-nil, ascending-list}
 use Rattle.laws.specs.Sound.{Good, sound→entries}
 use Rattle.laws.specs.Passes.{Passes, passes}
 use Rattle.laws.specs.Commands.{edit-n, edit-well, freed↔}
+use Rattle.laws.specs.Verdicts.{all-accept}
 use Rattle.laws.specs.Calls.{accepted-judged, accepted-outcome, judged}
 use Rattle.laws.specs.Held.{after-same}
-use Rattle.laws.specs.History.{Follows, follows}
+use Rattle.demands.specs.History.{Follows, follows}
 use Rattle.laws.specs.Freed.{alone}
 
 -- ---- kept by the table of holds, and reached by the history's
 
@@ -54,18 +55,18 @@ module _ (h : List Event) (b : Base) (wells : (p : ℕ) → p < b .n → Well b 
 -- ---- what is listed
 
 -- the list of an accepted command begins with what it frees
-listed-command : (a : Areas) (c : Command) → listed (acceptedCall a (does c)) ≡ freedBy (a .store .base) c
+listed-command : (a : Areas) (c : Command) → listed (acceptedCall a (does c)) ≡ freedBy (a .store .tables .base) c
 unfolding listed acceptedCall acceptedBy freedIn doneBy listing
-listed-command a New = take-append-seam (freedBy (a .store .base) New) _
-listed-command a (Set p k t) = take-append-seam (freedBy (a .store .base) (Set p k t)) _
-listed-command a (Freeze p) = take-append-seam (freedBy (a .store .base) (Freeze p)) _
-listed-command a (Acquire p) = take-append-seam (freedBy (a .store .base) (Acquire p)) _
-listed-command a (Release p) = take-append-seam (freedBy (a .store .base) (Release p)) _
-listed-command a (Bin p) = take-append-seam (freedBy (a .store .base) (Bin p)) _
+listed-command a New = take-append-seam (freedBy (a .store .tables .base) New) _
+listed-command a (Set p k t) = take-append-seam (freedBy (a .store .tables .base) (Set p k t)) _
+listed-command a (Freeze p seat) = take-append-seam (freedBy (a .store .tables .base) (Freeze p seat)) _
+listed-command a (Acquire p seat) = take-append-seam (freedBy (a .store .tables .base) (Acquire p seat)) _
+listed-command a (Release p seat) = take-append-seam (freedBy (a .store .tables .base) (Release p seat)) _
+listed-command a (Bin p) = take-append-seam (freedBy (a .store .tables .base) (Bin p)) _
 listed-command a (Look p) = unfold freedBy settles in refl
 
 -- so does that of an outcome that keeps the promise
-pub listed-is : (a : Areas) (o : Outcome) (c : Command) → Promise (does c) a o → judge a (does c) ≡ accepted → listed o ≡ freedBy (a .store .base) c
+pub listed-is : (a : Areas) (o : Outcome) (c : Command) → Promise (does c) a o → judge a (does c) ≡ accepted → listed o ≡ freedBy (a .store .tables .base) c
 listed-is a o c p j = ap listed (p .exact ∙ accepted-outcome a (does c) j) ∙ listed-command (cleared a (does c)) c ∙ (unfold cleared in refl)
 
 pub ascending-freed : (b : Base) (c : Command) → Ascending (freedBy b c)
@@ -87,15 +88,18 @@ start-listing h a = record {
   alone = λ d p. absurd (d refl);
 }
   where
-    empty-free : (p : ℕ) → Frozen (empty (a .store .base .n) .base) p → ⊥
-    empty-free p f = let x : state (empty (a .store .base .n) .base) p ≡ 0 = unfold empty state in (getD-replicate (a .store .base .n) p 0 0 (f .below)) in let y = f .is in omega arith
+    empty-free : (p : ℕ) → Frozen (emptyTables (a .store .tables .base .n) .base) p → ⊥
+    empty-free p f =
+        let x : state (emptyTables (a .store .tables .base .n) .base) p ≡ 0 = unfold emptyTables state in (getD-replicate (a .store .tables .base .n) p 0 0 (f .below)) in
+        let y = f .is in
+        omega arith
 
 module _ (n : ℕ) (h : List Event) (a : Areas) (st : Follows n h (a .store)) (o : Outcome) where
-  base-good : Good (a .store .base)
-  base-good = sound→entries (a .store) (st .ok .sound) .good
+  base-good : Good (a .store .tables .base)
+  base-good = sound→entries (a .store .tables) (st .ok .sound .tables) .good
 
-  command-listing : (c : Command) → Passes (a .store .base) c → Follows n (event (does c) o ∷ h) (o .areas .store) → listed o ≡ freedBy (a .store .base) c
-      → o .areas .store .base ≡ after (a .store .base) c → o .areas .list ≡ listing (freedBy (a .store .base) c) (a .list) → Listing h (does c) a o
+  command-listing : (c : Command) → Passes (a .store .tables .base) c → Follows n (event (does c) o ∷ h) (o .areas .store) → listed o ≡ freedBy (a .store .tables .base) c
+      → o .areas .store .tables .base ≡ after (a .store .tables .base) c → o .areas .list ≡ listing (freedBy (a .store .tables .base) c) (a .list) → Listing h (does c) a o
   unfolding changed
   command-listing c ps st′ ls bs li = record {
     exact = λ p. subst (λ (l : List ℕ). Among p l ↔ (Frozen e p × (¬ Reached h′ e p))) (sym ls)
@@ -108,11 +112,11 @@ module _ (n : ℕ) (h : List Event) (a : Areas) (st : Follows n h (a .store)) (o
     );
   }
     where
-      z : SizedBase (a .store .base)
-      z = st .ok .sized .base
+      z : SizedBase (a .store .tables .base)
+      z = st .ok .sized .tables .base
 
       b : Base
-      b = a .store .base
+      b = a .store .tables .base
 
       e : Base
       e = edit b c
@@ -121,7 +125,7 @@ module _ (n : ℕ) (h : List Event) (a : Areas) (st : Follows n h (a .store)) (o
       h′ = event (does c) o ∷ h
 
       freed : (p : ℕ) → Among p (freedBy b c) ↔ (Frozen e p × (¬ Kept e p))
-      freed p = freed↔ b (st .ok .sized .base) base-good c ps p
+      freed p = freed↔ b (st .ok .sized .tables .base) base-good c ps p
 
       wells : (p : ℕ) → p < e .n → Well e p
       wells = edit-well b z base-good c ps
@@ -131,11 +135,11 @@ module _ (n : ℕ) (h : List Event) (a : Areas) (st : Follows n h (a .store)) (o
           let m : p < b .n = subst (λ (x : ℕ). p < x) (edit-n b z base-good c) l in
           let i : p < n = subst (λ (x : ℕ). p < x) (st .size) m in
           let x = st′ .held p i in
-          let y : holdsOf (o .areas .store .base) p ≡ holdsOf (after b c) p = ap (λ (q : Base). holdsOf q p) bs in
+          let y : holdsOf (o .areas .store .tables .base) p ≡ holdsOf (after b c) p = ap (λ (q : Base). holdsOf q p) bs in
           let w = after-same b z base-good c p m in
           omega arith
 
-      back : {p : ℕ} → Live b p × (state (after b c) p ≡ 0) → Live b p × (state (o .areas .store .base) p ≡ 0)
+      back : {p : ℕ} → Live b p × (state (after b c) p ≡ 0) → Live b p × (state (o .areas .store .tables .base) p ≡ 0)
       back {p} y = (y .0, ap (λ (q : Base). state q p) bs ∙ y .1)
 
       bin-of : {p : ℕ} → does c ≡ does (Bin p) → c ≡ Bin p
@@ -152,7 +156,7 @@ module _ (n : ℕ) (h : List Event) (a : Areas) (st : Follows n h (a .store)) (o
   }
     where
       b : Base
-      b = a .store .base
+      b = a .store .tables .base
 
       h′ : List Event
       h′ = event check o ∷ h
@@ -166,19 +170,19 @@ module _ (n : ℕ) (h : List Event) (a : Areas) (st : Follows n h (a .store)) (o
       held : (p : ℕ) → p < b .n → holdsOf b p + taken p h′ ≡ added p h′
       held p l =
           let i : p < n = subst (λ (x : ℕ). p < x) (st .size) l in
-          let y : holdsOf (o .areas .store .base) p ≡ holdsOf b p = ap (λ (q : Store). holdsOf (q .base) p) same in
+          let y : holdsOf (o .areas .store .tables .base) p ≡ holdsOf b p = ap (λ (q : Store). holdsOf (q .tables .base) p) same in
           let x = st′ .held p i in
           omega arith
 
-      live-not-free : (p : ℕ) → Live b p × (state (o .areas .store .base) p ≡ 0) → ⊥
+      live-not-free : (p : ℕ) → Live b p × (state (o .areas .store .tables .base) p ≡ 0) → ⊥
       live-not-free p y =
-          let x : state (o .areas .store .base) p ≡ state b p = ap (λ (q : Store). state (q .base) p) same in
+          let x : state (o .areas .store .tables .base) p ≡ state b p = ap (λ (q : Store). state (q .tables .base) p) same in
           let w = y .1 in
           ⊎-elim (λ d. let v = d .is in omega arith) (λ d. let v = d .is in omega arith) (y .0)
 
 -- Demand 3
 pub demand3 : (n : ℕ) → n ≤ most → (h : List Event) (c : Call) (a : Areas) (o : Outcome) → History n h (a .store) → Promise c a o → T (isAccepted (o .reply)) → Listing h c a o
-unfolding acceptedCall cleared nextStore finish
+unfolding acceptedCall cleared nextStore nextTables finish
 demand3 n m h c a o r p t = go c (accepted-judged a c (subst (λ (x : Outcome). T (isAccepted (x .reply))) (p .exact) t)) (p .exact) (follows n m (accepting c a o r p t))
   where
     st : Follows n h (a .store)
@@ -188,8 +192,8 @@ demand3 n m h c a o r p t = go c (accepted-judged a c (subst (λ (x : Outcome). 
     go start j e st′ = subst (Listing h start a) (sym (e ∙ accepted-outcome a start j)) (start-listing h a)
     go (does c) j e st′ =
         let x : o ≡ acceptedCall (cleared a (does c)) (does c) = e ∙ accepted-outcome a (does c) j in
-        let ls : listed o ≡ freedBy (a .store .base) c = ap listed x ∙ listed-command (cleared a (does c)) c in
-        let bs : o .areas .store .base ≡ after (a .store .base) c = ap (λ (y : Outcome). y .areas .store .base) x in
-        let li : o .areas .list ≡ listing (freedBy (a .store .base) c) (a .list) = ap (λ (y : Outcome). y .areas .list) x in
-        command-listing n h a st o c (passes (a .store .base) c (judged a c j .verdict)) st′ ls bs li
+        let ls : listed o ≡ freedBy (a .store .tables .base) c = ap listed x ∙ listed-command (cleared a (does c)) c in
+        let bs : o .areas .store .tables .base ≡ after (a .store .tables .base) c = ap (λ (y : Outcome). y .areas .store .tables .base) x in
+        let li : o .areas .list ≡ listing (freedBy (a .store .tables .base) c) (a .list) = ap (λ (y : Outcome). y .areas .list) x in
+        command-listing n h a st o c (passes (a .store .tables .base) c (all-accept (judged a c j .verdict) .tables)) st′ ls bs li
     go check j e st′ = check-listing n h a st o (e ∙ accepted-outcome a check j) st′

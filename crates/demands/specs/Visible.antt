@@ -10,22 +10,23 @@ use Rattle.rules.specs.Lists.{Among}
 use Rattle.rules.specs.Reach.{here, chain, Link}
 use Rattle.rules.specs.Tables.{Base, state, isFrozen, linkAt, holdsOf}
 use Rattle.rules.specs.Words.{Frozen, Live, Reaches, Root, Kept, SizedBase, Well, wfree, wdraft, wfrozen}
-use Rattle.rules.specs.Commands.{refusals, withLinks, withHolds, oneLess, freeAll, edit, settles, freedBy}
+use Rattle.rules.specs.Commands.{tableRefusals, withLinks, withHolds, oneLess, freeAll, edit, settles, freedBy}
 use Rattle.rules.specs.Calls.{Call, start, does, check, Areas, Outcome, judge, Promise}
 use Rattle.rules.specs.Commands.{accepted}
 use Rattle.rules.specs.History.{Event, event, isAccepted, History, accepting, added, taken, listed, Reached, changed, Listing}
 use Rattle.rules.specs.declared.Refusal.the-variants.{State}
 use Rattle.rules.specs.declared.Command.{Command}
 use Rattle.rules.specs.declared.Command.the-variants.{New, Set, Freeze, Acquire, Release, Bin, Look}
 use Rattle.laws.specs.Below.{T-dec, pick-true, pick-false, among-nil}
 use Rattle.laws.specs.Words.{→isFrozen}
 use Rattle.laws.specs.Sound.{Good, sound→entries}
 use Rattle.laws.specs.Settle.{state-freeAll}
 use Rattle.laws.specs.Passes.{applies, Passes, not-by, passes}
 use Rattle.laws.specs.Commands.{freed↔}
+use Rattle.laws.specs.Verdicts.{all-accept}
 use Rattle.laws.specs.Calls.{accepted-judged, judged}
-use Rattle.laws.specs.History.{Follows, follows}
-use Rattle.laws.specs.Demand3.{demand3, kept→reached, reached→kept, listed-is}
+use Rattle.demands.specs.History.{Follows, follows}
+use Rattle.demands.specs.Demand3.{demand3, kept→reached, reached→kept, listed-is}
 
 -- in tables whose pieces are well, what a live piece reaches is live
 module _ (b : Base) (small : b .n ≤ 1024) (wells : (p : ℕ) → p < b .n → Well b p) where
@@ -55,7 +56,7 @@ module _ (b : Base) (small : b .n ≤ 1024) (wells : (p : ℕ) → p < b .n → 
 
 -- a frozen piece is not binned
 not-frozen-bin : (b : Base) (p : ℕ) → Passes b (Bin p) → Frozen b p → ⊥
-unfolding refusals applies
+unfolding tableRefusals applies
 not-frozen-bin b p ps f = T-not (isFrozen b p) (not-by ps State) (→isFrozen b p (f .is))
 
 -- what a command frees was frozen before
@@ -73,24 +74,24 @@ module _ (b : Base) (z : SizedBase b) (g : Good b) where
   unfolding freedBy settles
   freed-frozen New ps p m = absurd (among-nil m)
   freed-frozen (Set q k t) ps p m = let f = freed↔ b z g (Set q k t) ps p .0 m .0 in record { below = unfold edit withLinks in (f .below); is = unfold edit withLinks state in (f .is) }
-  freed-frozen (Freeze q) ps p m = absurd (among-nil m)
-  freed-frozen (Acquire q) ps p m = absurd (among-nil m)
-  freed-frozen (Release q) ps p m =
-      let f = freed↔ b z g (Release q) ps p .0 m .0 in record { below = unfold edit oneLess withHolds in (f .below); is = unfold edit oneLess withHolds state in (f .is) }
+  freed-frozen (Freeze q seat) ps p m = absurd (among-nil m)
+  freed-frozen (Acquire q seat) ps p m = absurd (among-nil m)
+  freed-frozen (Release q seat) ps p m =
+      let f = freed↔ b z g (Release q seat) ps p .0 m .0 in record { below = unfold edit oneLess withHolds in (f .below); is = unfold edit oneLess withHolds state in (f .is) }
   freed-frozen (Bin q) ps p m = binned q p (freed↔ b z g (Bin q) ps p .0 m .0)
   freed-frozen (Look q) ps p m = absurd (among-nil m)
 
 -- Demand 3, over what is seen: listed are exactly the pieces that were frozen before the call and that, in the tables after it, no chain of links reaches from a draft or from a held piece
 pub demand3-seen : (n : ℕ) → n ≤ most → (h : List Event) (c : Call) (a : Areas) (o : Outcome) → History n h (a .store) → Promise c a o → T (isAccepted (o .reply))
     → (c ≡ start → ⊥)
-    → (p : ℕ) → Among p (listed o) ↔ (Frozen (a .store .base) p × (¬ Reached (event c o ∷ h) (o .areas .store .base) p))
+    → (p : ℕ) → Among p (listed o) ↔ (Frozen (a .store .tables .base) p × (¬ Reached (event c o ∷ h) (o .areas .store .tables .base) p))
 demand3-seen n m h c a o r q t d p = (to, from)
   where
     b : Base
-    b = a .store .base
+    b = a .store .tables .base
 
     b′ : Base
-    b′ = o .areas .store .base
+    b′ = o .areas .store .tables .base
 
     h′ : List Event
     h′ = event c o ∷ h
@@ -105,10 +106,10 @@ demand3-seen n m h c a o r q t d p = (to, from)
     st′ = follows n m (accepting c a o r q t)
 
     good : Good b
-    good = sound→entries (a .store) (st .ok .sound) .good
+    good = sound→entries (a .store .tables) (st .ok .sound .tables) .good
 
     good′ : Good b′
-    good′ = sound→entries (o .areas .store) (st′ .ok .sound) .good
+    good′ = sound→entries (o .areas .store .tables) (st′ .ok .sound .tables) .good
 
     held : (x : ℕ) → x < b′ .n → holdsOf b′ x + taken x h′ ≡ added x h′
     held x l = st′ .held x (subst (λ (y : ℕ). x < y) (st′ .size) l)
@@ -120,12 +121,12 @@ demand3-seen n m h c a o r q t d p = (to, from)
     was start e x = absurd (d e)
     was (does k) e x =
         let y : judge a (does k) ≡ accepted = subst (λ (v : Call). judge a v ≡ accepted) e j in
-        freed-frozen b (st .ok .sized .base) good k (passes b k (judged a k y .verdict)) p
+        freed-frozen b (st .ok .sized .tables .base) good k (passes b k (all-accept (judged a k y .verdict) .tables)) p
         (subst (Among p) (listed-is a o k (subst (λ (v : Call). Promise v a o) e q) y) x)
     was check e x = unfold changed in (subst (λ (v : Call). Frozen (changed b v) p) e (all .exact p .0 x .0))
 
     to : Among p (listed o) → Frozen b p × (¬ Reached h′ b′ p)
-    to x = (was c refl x, λ y. gone (kept-live b′ (st′ .ok .sized .base .most) (good′ .wells) p (reached→kept h′ b′ (good′ .wells) held p y)))
+    to x = (was c refl x, λ y. gone (kept-live b′ (st′ .ok .sized .tables .base .most) (good′ .wells) p (reached→kept h′ b′ (good′ .wells) held p y)))
       where
         gone : Live b′ p → ⊥
         gone l = let w = all .alone d p .1 (inl x) .1 in ⊎-elim (λ y. let v = y .is in omega arith) (λ y. let v = y .is in omega arith) l
@@ -139,7 +140,7 @@ demand3-seen n m h c a o r q t d p = (to, from)
         binned : c ≡ does (Bin p) → Among p (listed o)
         binned e =
             let y : judge a (does (Bin p)) ≡ accepted = subst (λ (v : Call). judge a v ≡ accepted) e j in
-            absurd (not-frozen-bin b p (passes b (Bin p) (judged a (Bin p) y .verdict)) (x .0))
+            absurd (not-frozen-bin b p (passes b (Bin p) (all-accept (judged a (Bin p) y .verdict) .tables)) (x .0))
 
         go : Well b′ p → Among p (listed o)
         go (wfree w) = ⊎-elim (λ y. y) binned (all .alone d p .0 (inr (x .0), w .is))

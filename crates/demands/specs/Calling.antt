@@ -10,9 +10,9 @@ use lib.Dec.{T, eqb, leb, le→leb}
 use lib.ListN.{length, replicate, length-replicate}
 use Rattle.rules.specs.Tests.{_or_, _&_, pick}
 use Rattle.rules.specs.Limits.{most, none}
-use Rattle.rules.specs.Tables.{Store, isSound, empty}
-use Rattle.rules.specs.Commands.{isLook, pieceOf, valueOf, Verdict, accepted, refused, verdict, settled, stepTo, freedBy, nextStore}
-use Rattle.rules.specs.Calls.{numberOf, Reply, answered, saw, seenAt, doneBy, acceptedBy, refusedBy, does, takesList, takesWork, isSized, isLent}
+use Rattle.rules.specs.Tables.{Store, isSoundStore, empty}
+use Rattle.rules.specs.Commands.{isLook, pieceOf, valueOf, Verdict, accepted, refused, verdict, settled, stepTo, freedBy}
+use Rattle.rules.specs.Calls.{numberOf, Reply, answered, saw, seenAt, doneBy, acceptedBy, refusedBy, does, takesList, takesWork, isSizedStore, isLent}
 use Rattle.rules.specs.Calls.{areasOf, judge, cleared, acceptedCall, ended, outcomeOf, Outcome, Promise, refusedCall}
 use Rattle.rules.specs.Trace.{answerLine, lookLine, linesOf, says, answerTo, lineBy, acceptedLine, storeAfter, outputOf, endLine, traceAt, trace}
 use Rattle.rules.specs.History.{Event, event, isAccepted, History, begun, refusing, accepting, listed, Listing}
@@ -23,29 +23,28 @@ use Rattle.rules.specs.declared.Answer.the-variants.{Refused}
 use Rattle.rules.specs.declared.Seen.the-variants.{Unseen}
 use Rattle.rules.specs.declared.Line.{Line}
 use Rattle.rules.specs.declared.Line.the-variants.{Does, Bad}
 use Rattle.laws.specs.Tests.{and-both}
 use Rattle.laws.specs.Below.{T-dec}
-use Rattle.laws.specs.Sound.{→isSound}
-use Rattle.laws.specs.Commands.{Ok, step-ok}
-use Rattle.laws.specs.Calls.{→sized, judge-through, refused-stays}
-use Rattle.laws.specs.History.{follows}
-use Rattle.laws.specs.Demand3.{listed-is, demand3}
+use Rattle.laws.specs.Calls.{→sized-store, judge-through, refused-stays}
+use Rattle.demands.specs.Sound.{OkStore, →sound-store}
+use Rattle.demands.specs.History.{follows}
+use Rattle.demands.specs.Demand3.{listed-is, demand3}
 
 -- the areas of a line's call have their lengths
-lent-right : (s : Store) (c : Command) → 1 ≤ s .base .n → Ok s → T (isLent (lentTo s c) (does c))
+lent-right : (s : Store) (c : Command) → 1 ≤ s .tables .base .n → OkStore s → T (isLent (lentTo s c) (does c))
 unfolding isLent takesWork
 lent-right s c l o =
-    and-both (isSized s) _ (→sized s l (o .sized))
-    (and-both (not (takesList (does c)) or leb (s .base .n) (length {A = ℕ} (pick (takesList (does c)) (replicate (s .base .n) 0) []))) _ (room (takesList (does c)))
-    (le→leb (8 * s .base .n) (length {A = ℕ} (replicate (8 * s .base .n) 0)) (omega (arith, length-replicate {A = ℕ} (8 * s .base .n) 0))))
+    and-both (isSizedStore s) _ (→sized-store s l (o .sized))
+    (and-both (not (takesList (does c)) or leb (s .tables .base .n) (length {A = ℕ} (pick (takesList (does c)) (replicate (s .tables .base .n) 0) []))) _ (room (takesList (does c)))
+    (le→leb (8 * s .tables .base .n) (length {A = ℕ} (replicate (8 * s .tables .base .n) 0)) (omega (arith, length-replicate {A = ℕ} (8 * s .tables .base .n) 0))))
   where
-    room : (b : Bool) → T (not b or leb (s .base .n) (length {A = ℕ} (pick b (replicate (s .base .n) 0) [])))
-    room true = le→leb (s .base .n) (length {A = ℕ} (replicate (s .base .n) 0)) (omega (arith, length-replicate {A = ℕ} (s .base .n) 0))
+    room : (b : Bool) → T (not b or leb (s .tables .base .n) (length {A = ℕ} (pick b (replicate (s .tables .base .n) 0) [])))
+    room true = le→leb (s .tables .base .n) (length {A = ℕ} (replicate (s .tables .base .n) 0)) (omega (arith, length-replicate {A = ℕ} (s .tables .base .n) 0))
     room false = tt
 
-module _ (s : Store) (c : Command) (least : 1 ≤ s .base .n) (o : Ok s) where
-  judged-is : judge (lentTo s c) (does c) ≡ verdict (s .base) c
-  judged-is = judge-through (lentTo s c) c (lent-right s c least o) (→isSound s (o .sound))
+module _ (s : Store) (c : Command) (least : 1 ≤ s .tables .base .n) (o : OkStore s) where
+  judged-is : judge (lentTo s c) (does c) ≡ verdict s c
+  judged-is = judge-through (lentTo s c) c (lent-right s c least o) (→sound-store s (o .sound))
 
   promised : Promise (does c) (lentTo s c) (cameOf s c)
   promised = record { exact = unfold cameOf in refl }
@@ -53,7 +52,7 @@ module _ (s : Store) (c : Command) (least : 1 ≤ s .base .n) (o : Ok s) where
   -- the call leaves the store that the line does
   came-store : cameOf s c .areas .store ≡ stepTo s c
   unfolding cameOf outcomeOf stepTo
-  came-store = ap (λ (v : Verdict). ended (lentTo s c) (does c) v .areas .store) judged-is ∙ go (verdict (s .base) c)
+  came-store = ap (λ (v : Verdict). ended (lentTo s c) (does c) v .areas .store) judged-is ∙ go (verdict s c)
     where
       same : (b : Bool) → pick b (lentTo s c) (cleared (lentTo s c) (does c)) .store ≡ s
       same true = refl
@@ -66,13 +65,13 @@ module _ (s : Store) (c : Command) (least : 1 ≤ s .base .n) (o : Ok s) where
   -- and answers what the line answers
   came-line : answerTo s (Does c) ≡ lineOf (cameOf s c)
   unfolding answerTo lineOf lineBy acceptedLine ended acceptedCall acceptedBy cleared refusedCall refusedBy
-  came-line = go (verdict (s .base) c) refl
+  came-line = go (verdict s c) refl
     where
-      reply-is : (v : Verdict) → verdict (s .base) c ≡ v → cameOf s c .reply ≡ ended (lentTo s c) (does c) v .reply
+      reply-is : (v : Verdict) → verdict s c ≡ v → cameOf s c .reply ≡ ended (lentTo s c) (does c) v .reply
       reply-is v e = unfold cameOf outcomeOf in (ap (λ (x : Verdict). ended (lentTo s c) (does c) x .reply) (judged-is ∙ e))
 
-      look : (b : Bool) → pick b (lookLine (seenAt s (pieceOf c))) (answerLine 0 (valueOf (s .base) c) (freedBy (s .base) c))
-          ≡ lineIn (pick b (saw (seenAt s (pieceOf c))) (answered (doneBy (s .base) c))) (freedBy (s .base) c)
+      look : (b : Bool) → pick b (lookLine (seenAt (s .tables) (pieceOf c))) (answerLine 0 (valueOf (s .tables .base) c) (freedBy (s .tables .base) c))
+          ≡ lineIn (pick b (saw (seenAt (s .tables) (pieceOf c))) (answered (doneBy (s .tables .base) c))) (freedBy (s .tables .base) c)
       look true = unfold lineIn in refl
       look false = unfold lineIn doneBy in refl
 
@@ -80,10 +79,10 @@ module _ (s : Store) (c : Command) (least : 1 ≤ s .base .n) (o : Ok s) where
       no r true l = unfold lineIn in refl
       no r false l = unfold lineIn in refl
 
-      go : (v : Verdict) → verdict (s .base) c ≡ v → lineBy s c v ≡ lineIn (cameOf s c .reply) (listed (cameOf s c))
+      go : (v : Verdict) → verdict s c ≡ v → lineBy (s .tables) c v ≡ lineIn (cameOf s c .reply) (listed (cameOf s c))
       go accepted e =
           look (isLook c)
-          ∙ ap (λ (r : Reply). lineIn r (freedBy (s .base) c)) (sym (reply-is accepted e))
+          ∙ ap (λ (r : Reply). lineIn r (freedBy (s .tables .base) c)) (sym (reply-is accepted e))
           ∙ ap (lineIn (cameOf s c .reply)) (sym (listed-is (lentTo s c) (cameOf s c) c promised (judged-is ∙ e)))
       go (refused r) e =
           no r (isLook c) (listed (cameOf s c))
@@ -99,10 +98,10 @@ line-history n least small s h (Does c) past = ⊎-elim
     (λ t. subst (History n (event (does c) (cameOf s c) ∷ h)) (sym (stays t) ∙ came-store s c first ok) (refusing (does c) (lentTo s c) (cameOf s c) past kept t))
     (T-dec (isAccepted (cameOf s c .reply)))
   where
-    ok : Ok s
+    ok : OkStore s
     ok = follows n small past .ok
 
-    first : 1 ≤ s .base .n
+    first : 1 ≤ s .tables .base .n
     first = subst (λ (k : ℕ). 1 ≤ k) (sym (follows n small past .size)) least
 
     kept : Promise (does c) (lentTo s c) (cameOf s c)
@@ -119,13 +118,13 @@ lines-history n least small s h (l ∷ ls) past =
     lines-history n least small (storeAfter s (says l)) (callOf s (says l) h) ls (line-history n least small s h (says l) past)
 
 -- the answers of lines from a store on are those of their calls
-lines-answered : (n : ℕ) → 1 ≤ n → n ≤ most → (s : Store) (h : List Event) (ls : List (List ℕ)) → History n h s → outputOf s ls ≡ answersOf s ls ++ endLine (leftBy s ls)
+lines-answered : (n : ℕ) → 1 ≤ n → n ≤ most → (s : Store) (h : List Event) (ls : List (List ℕ)) → History n h s → outputOf s ls ≡ answersOf s ls ++ endLine (leftBy s ls .tables)
 unfolding outputOf answersOf leftBy
 lines-answered n least small s h [] past = refl
 lines-answered n least small s h (l ∷ ls) past =
     ap (λ (x : List ℕ). x ++ outputOf (storeAfter s (says l)) ls) (line (says l))
     ∙ ap (λ (x : List ℕ). answerOf s (says l) ++ x) (lines-answered n least small (storeAfter s (says l)) (callOf s (says l) h) ls (line-history n least small s h (says l) past))
-    ∙ sym (append-assoc (answerOf s (says l)) (answersOf (storeAfter s (says l)) ls) (endLine (leftBy (storeAfter s (says l)) ls)))
+    ∙ sym (append-assoc (answerOf s (says l)) (answersOf (storeAfter s (says l)) ls) (endLine (leftBy (storeAfter s (says l)) ls .tables)))
   where
     line : (x : Line) → answerTo s x ≡ answerOf s x
     line (Does c) = unfold answerOf in (came-line s c (subst (λ (k : ℕ). 1 ≤ k) (sym (follows n small past .size)) least) (follows n small past .ok))
@@ -139,12 +138,12 @@ module _ (n : ℕ) (least : 1 ≤ n) (small : n ≤ most) where
   trace-history ls = lines-history n least small (empty n) [] ls begun
 
   -- whose answers are the lines' answers
-  pub trace-answers : (text : List ℕ) → traceAt n text ≡ answersOf (empty n) (linesOf text) ++ endLine (leftBy (empty n) (linesOf text))
+  pub trace-answers : (text : List ℕ) → traceAt n text ≡ answersOf (empty n) (linesOf text) ++ endLine (leftBy (empty n) (linesOf text) .tables)
   unfolding traceAt
   trace-answers text = lines-answered n least small (empty n) [] (linesOf text) begun
 
   -- Demand 2 of every trace: after any of its lines the store is sound
-  pub trace-sound : (ls : List (List ℕ)) → Ok (leftBy (empty n) ls)
+  pub trace-sound : (ls : List (List ℕ)) → OkStore (leftBy (empty n) ls)
   trace-sound ls = follows n small (trace-history ls) .ok
 
   -- Demand 3 of every trace: after lines ls, a line whose command is accepted lists exactly what no chain reaches any more

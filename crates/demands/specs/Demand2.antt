@@ -1,0 +1,57 @@
+-- Demand 2: each accepted call leaves the store what the rules define, each area its length, and sound, with holds the sum over the register.
+use mathlib.Core.Path.{_≡_, refl, sym, subst}
+use Prim.Native.Nat.{ℕ, _<_}
+use lib.Dec.{T, T-not}
+use Rattle.rules.specs.Register.{Right}
+use Rattle.rules.specs.Tables.{Store, finish}
+use Rattle.rules.specs.Commands.{Verdict, accepted, refused, after, verdict, noted, nextTables, nextStore, settled, stepTo}
+use Rattle.rules.specs.Calls.{Call, check, Areas, Outcome, Promise}
+use Rattle.rules.specs.History.{isAccepted}
+use Rattle.rules.specs.declared.Command.{Command}
+use Rattle.laws.specs.Passes.{passes}
+use Rattle.laws.specs.Commands.{after-n}
+use Rattle.laws.specs.Commands as tables
+use Rattle.laws.specs.Verdicts.{all-accept}
+use Rattle.demands.specs.Sound.{OkStore, empty-ok}
+use Rattle.demands.specs.Noted.{good, noted-sums, noted-right}
+use Rattle.demands.specs.Came.{Came, stayed, emptied, stepped, tested, came}
+
+-- an accepted command leaves a sound store sound
+pub next-ok : (s : Store) (c : Command) → OkStore s → verdict s c ≡ accepted → OkStore (nextStore s c)
+unfolding nextStore
+next-ok s c o v = record {
+  sized = record { tables = t .sized; register = right .ordered .size };
+  sound = record {
+    tables = t .sound;
+    register = unfold nextTables finish in (subst (λ (n : ℕ). Right n (noted (s .register) c)) (sym size) right);
+    sums = λ p h. unfold nextTables finish in (noted-sums s o c v p (subst (λ (n : ℕ). p < n) size (unfold nextTables finish in h)));
+  };
+}
+  where
+    t : tables.Ok (nextTables (s .tables) c)
+    t = tables.next-ok (s .tables) c (record { sized = o .sized .tables; sound = o .sound .tables }) (passes (s .tables .base) c (all-accept v .tables))
+
+    size : after (s .tables .base) c .n ≡ s .tables .base .n
+    size = after-n (s .tables .base) (o .sized .tables .base) (good s o) c
+
+    right : Right (s .tables .base .n) (noted (s .register) c)
+    right = noted-right s o c v
+
+-- and so does any command
+pub step-ok : (s : Store) (c : Command) → OkStore s → OkStore (stepTo s c)
+unfolding stepTo settled
+step-ok s c o = go (verdict s c) refl
+  where
+    go : (v : Verdict) → verdict s c ≡ v → OkStore (settled v s c)
+    go accepted e = next-ok s c o e
+    go (refused r) e = o
+
+-- After every accepted call, but for check, the store is what the rules define
+pub accepted-ok : {c : Call} {a : Areas} {o : Outcome} → Promise c a o → T (isAccepted (o .reply)) → (c ≡ check → ⊥) → OkStore (o .areas .store)
+accepted-ok {c} {a} {o} p t d = go (came p) d
+  where
+    go : {c : Call} → Came a o c → (c ≡ check → ⊥) → OkStore (o .areas .store)
+    go (stayed u e) d = absurd (T-not (isAccepted (o .reply)) u t)
+    go (emptied u m e) d = subst OkStore (sym e) (empty-ok (a .store .tables .base .n) m)
+    go (stepped c u ok v r e) d = subst OkStore (sym e) (next-ok (a .store) c ok v)
+    go (tested e) d = absurd (d refl)

@@ -1,0 +1,15 @@
+pub mod Sound
+pub mod Noted
+pub mod Came
+pub mod Seats
+pub mod Demand2
+pub mod Stands
+pub mod Since
+pub mod Measured
+pub mod History
+pub mod BySeat
+pub mod Demand3
+pub mod Visible
+pub mod Lines
+pub mod Told
+pub mod Calling

@@ -1,0 +1,1 @@
+// Theorems about calls and histories of the store; no code.
