@@ -1,6 +1,7 @@
 /*
- * A drawing program's use of the store: a front and a back that name each other are drawn up,
- * handed in by one seat, looked at, and released by it alone; once by calls, once by a lent trace.
+ * A drawing program's use of the store: a front and a back that name each other are drawn up, a
+ * student is told which number of a link was wrong, and both are handed in by one seat, looked at,
+ * and released by it alone; once by calls, once by a lent trace.
  */
 #include "pieces.h"
 #include <stdio.h>
@@ -28,6 +29,20 @@ static uint64_t accepted(const char *call, uint64_t answer) {
     return answer;
 }
 
+/* What a student is told of a link that cannot be set. */
+static const char *told(uint64_t answer) {
+    switch (pieces_refusal(answer)) {
+    case PIECES_NUMBER: return "no piece can have that number";
+    case PIECES_PLACE: return "a piece has link places 0 to 3";
+    case PIECES_TARGET: return "no piece to link to can have that number";
+    case PIECES_FREE: return "there is no such piece";
+    case PIECES_FREETARGET: return "there is no such piece to link to";
+    case PIECES_STATE: return "the piece is handed in, its links stay";
+    case PIECES_ACCEPTED: return "it is set";
+    default: return "the tables are spoiled";
+    }
+}
+
 static void look(const char *name, uint16_t p) {
     uint64_t looked = accepted("look", pieces_look(STORE, work, 8 * N, p));
     printf("%s is piece %u: state %u, leader ", name, p, pieces_state(looked));
@@ -42,6 +57,9 @@ static void by_calls(void) {
     uint16_t back = pieces_value(accepted("new", pieces_new(AREAS)));
     accepted("set", pieces_set(AREAS, front, 0, back));
     accepted("set", pieces_set(AREAS, back, 0, front));
+    printf("front to back at place 4: %s\n", told(pieces_set(AREAS, front, 4, back)));
+    printf("front to piece 16: %s\n", told(pieces_set(AREAS, front, 1, N)));
+    printf("front to piece 9: %s\n", told(pieces_set(AREAS, front, 1, 9)));
     look("front", front);
 
     accepted("freeze", pieces_freeze(AREAS, front, MINE));
@@ -59,7 +77,8 @@ static void by_calls(void) {
 
 static void by_trace(void) {
     static const char trace[] =
-        "n\nn\ns 0 0 1\ns 1 0 0\nl 0\nf 0 3\nl 0\nl 1\nr 1 3\nr 0 4\nr 0 3\n";
+        "n\nn\ns 0 0 1\ns 1 0 0\ns 0 4 1\ns 0 1 1024\ns 0 1 9\nl 0\n"
+        "f 0 3\nl 0\nl 1\nr 1 3\nr 0 4\nr 0 3\n";
     static uint8_t room[1000];
     uint64_t length = pieces_trace((const uint8_t *)trace, strlen(trace), room, sizeof room);
     if (pieces_trace_refusal(length)) {

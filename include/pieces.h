@@ -64,21 +64,24 @@ enum pieces_states { PIECES_IS_FREE = 0, PIECES_IS_DRAFT = 1, PIECES_IS_FROZEN =
 /* The refusals. They are checked in this order; the first that applies is given. */
 enum pieces_refusals {
     PIECES_ACCEPTED = 0,
-    PIECES_SIZE = 1,      /* N outside 1 to 1,024, an area of the store not exactly its length,
-                             list or work too short (of the areas the call takes) */
-    PIECES_UNSOUND = 2,   /* tables not sound (not for start and check) */
-    PIECES_SEAT = 12,     /* the seat is above 31 */
-    PIECES_NUMBER = 3,    /* P is N or more, K above 3, or T neither none nor below N */
-    PIECES_FREE = 4,      /* P or T is a free number */
-    PIECES_STATE = 5,     /* set or bin of a frozen piece; acquire or release of a draft */
-    PIECES_LIMIT = 6,     /* acquire or freeze of a frozen piece with 1,000 holds */
-    PIECES_REGISTER = 14, /* a hold would need a line of the register and all are used */
-    PIECES_NOTHELD = 7,   /* release of a piece with 0 holds */
-    PIECES_NOTYOURS = 13, /* release of a piece that has holds, but none of this seat's */
-    PIECES_LINKED = 8,    /* bin of a draft that another piece links to */
-    PIECES_FULL = 9,      /* new with no free number */
-    PIECES_LONG = 10,     /* lent trace over 65,536 bytes */
-    PIECES_ROOM = 11      /* output of a lent trace longer than the room lent */
+    PIECES_SIZE = 1,        /* N outside 1 to 1,024, an area of the store not exactly its length,
+                               list or work too short (of the areas the call takes) */
+    PIECES_UNSOUND = 2,     /* tables not sound (not for start and check) */
+    PIECES_SEAT = 12,       /* the seat is above 31 */
+    PIECES_NUMBER = 3,      /* wrong piece: P is N or more, and pieces are 0 to N - 1 */
+    PIECES_PLACE = 15,      /* wrong place: K is above 3, and a piece has link places 0 to 3 */
+    PIECES_TARGET = 16,     /* wrong target: T is neither none nor below N */
+    PIECES_FREE = 4,        /* free piece: P is a free number, there is no such piece now */
+    PIECES_FREETARGET = 17, /* free target: T is a free number, there is no such piece to link to */
+    PIECES_STATE = 5,       /* set or bin of a frozen piece; acquire or release of a draft */
+    PIECES_LIMIT = 6,       /* acquire or freeze of a frozen piece with 1,000 holds */
+    PIECES_REGISTER = 14,   /* a hold would need a line of the register and all are used */
+    PIECES_NOTHELD = 7,     /* release of a piece with 0 holds */
+    PIECES_NOTYOURS = 13,   /* release of a piece that has holds, but none of this seat's */
+    PIECES_LINKED = 8,      /* bin of a draft that another piece links to */
+    PIECES_FULL = 9,        /* new with no free number */
+    PIECES_LONG = 10,       /* lent trace over 65,536 bytes */
+    PIECES_ROOM = 11        /* output of a lent trace longer than the room lent */
 };
 
 /*

@@ -21,6 +21,26 @@ BY_TRACE = [
          "        self.links[p][usize::from(k)] = t;\n        answer")]),
     ("set refuses a frozen piece before a free target", [
         ("commands.rs", "        self.live(p)?;\n", "        self.live_in(DRAFT, p)?;\n")]),
+    ("a wrong target is given before a wrong place", [
+        ("commands.rs", "        if usize::from(k) >= LINKS {",
+         "        if target.map_or(false, |t| t >= self.n()) {\n            return Err(Refusal::Target);\n        }\n"
+         "        if usize::from(k) >= LINKS {")]),
+    ("a wrong place is given before a wrong piece", [
+        ("commands.rs", "        if usize::from(p) >= self.n() {",
+         "        if usize::from(k) >= LINKS {\n            return Err(Refusal::Place);\n        }\n"
+         "        if usize::from(p) >= self.n() {")]),
+    ("a free piece is given before a wrong place", [
+        ("commands.rs", "        if usize::from(k) >= LINKS {", "        self.live(p)?;\n        if usize::from(k) >= LINKS {")]),
+    ("a free target is given before a free piece", [
+        ("commands.rs", "        self.live(p)?;\n        if target",
+         "        if target.map_or(false, |t| self.states[t] == FREE) {\n            return Err(Refusal::FreeTarget);\n        }\n"
+         "        self.live(p)?;\n        if target")]),
+    ("a free target is given as a free piece", [
+        ("commands.rs", "return Err(Refusal::FreeTarget)", "return Err(Refusal::Free)")]),
+    ("a target of none is a wrong one", [
+        ("commands.rs", "(t != NONE).then_some(usize::from(t))", "Some(usize::from(t))")]),
+    ("a target of none is looked up and found free", [
+        ("commands.rs", "target.map_or(false, |t| self.states[t] == FREE)", "target.map_or(true, |t| self.states[t] == FREE)")]),
     ("freeze of a frozen piece gives no hold", [
         ("commands.rs", "            return self.acquire(p, seat);", "            return nothing();")]),
     ("the limit is 999", [

@@ -12,12 +12,13 @@ ghost use Rattle.editing.specs.Started.{Tippings, Tumbled};
 ghost use Rattle.editing.specs.Linked.{namings, linkedTo};
 ghost use Rattle.editing.specs.Emptied.{Emptying, Emptied};
 ghost use Rattle.editing.specs.Bin.{Binning};
+use naming::Name;
 use rules::Answer;
 use rules::Refusal;
 use rules::Store;
 
 // How many of the links name p.
-fn naming(links: &[u16], p: u16) -> u16
+fn namings(links: &[u16], p: u16) -> u16
     requires { ⌜ length (now links) ≤ 4096 ⌝ }
     ensures { λ r. ⌜ r ≡ namings (now (links .entry)) p (length (now (links .entry))) ⌝ }
 {
@@ -37,11 +38,11 @@ fn is_linked(n: usize, links: &[u16], p: u16) -> bool
     requires { ⌜ (length (now links) ≡ 4 * n) × (n ≤ 1024) × (p < n) ⌝ }
     ensures { λ r. ⌜ r ≡ linkedTo n (now (links .entry)) p ⌝ }
 {
-    let all = naming(links, p);
+    let all = namings(links, p);
     let at = p as usize;
     let start = Store::LINKS * at;
     let end = start + 4;
-    let own = naming(&links[start..end], p);
+    let own = namings(&links[start..end], p);
     if all != own {
         return true;
     }
@@ -124,13 +125,11 @@ pub fn bin(
         (tablesOf n (now (states .entry)) (now (links .entry)) (now (leaders .entry)) (now (holds .entry)) (now (counts .entry))) (now (list .entry))
         (tablesEffect (answered r) (tablesOf n (now (states .exit)) (now (links .exit)) (now (leaders .exit)) (now (holds .entry)) (now (counts .exit))) (now (list .exit))) ⌝ }
 {
+    match naming::piece(n, states, p) {
+        Name::Wrong(refusal) => return Answer::Refused(refusal),
+        Name::Right => {}
+    }
     let at = p as usize;
-    if n <= at {
-        return Answer::Refused(Refusal::Number);
-    }
-    if states[at] == Store::FREE {
-        return Answer::Refused(Refusal::Free);
-    }
     if states[at] == Store::FROZEN {
         return Answer::Refused(Refusal::State);
     }

@@ -16,7 +16,7 @@ use Rattle.rules.specs.Lists.{Among, first, later, _!_}
 use Rattle.rules.specs.Tables.{baseOf, Base, Tables, state, isFree, isFrozen, holdsOf}
 use Rattle.rules.specs.Words.{Frozen, Well}
 use Rattle.rules.specs.Commands.{freeAll, withStates, withLinks, edit, settles, valueOf}
-use Rattle.rules.specs.Calls.{answered, acceptedBy, doneBy, Ready}
+use Rattle.rules.specs.Calls.{answered, refusedBy, acceptedBy, doneBy, Ready}
 use Rattle.rules.specs.declared.Refusal.the-variants.{Linked}
 use Rattle.rules.specs.declared.Command.the-variants.{Bin}
 use Rattle.rules.specs.declared.Answer.the-variants.{Refused}
@@ -31,6 +31,7 @@ use Rattle.tallies.specs.Tally.{label, cross, held, placed, tally}
 use Rattle.tallies.specs.Moves.{cross-off}
 use Rattle.tallies.specs.Exact.{Exact, label-past}
 use Rattle.tallies.specs.Stores.{exact-moves, good-of, wells-of, exact-of, match-of, counted-of, holds-most}
+use Rattle.naming.specs.Told.{NamedPiece}
 use Rattle.falling.specs.Queue.{lengths-kept, Known}
 use Rattle.falling.specs.Fall.{Begin, OthersCounted}
 use Rattle.editing.specs.Started.{lengths-of, labelled-of, Edited}
@@ -40,9 +41,10 @@ use Rattle.editing.specs.Emptied.{Emptying, Emptied}
 
 -- ---- the refusal
 
-module _ {s : Tables} {list : List ℕ} {p : ℕ} (below : p < s .base .n) (live : s .base .states ! p ≡ 0 → ⊥) (other : s .base .states ! p ≡ 2 → ⊥) where
+module _ {s : Tables} {list : List ℕ} {p : ℕ} (named : NamedPiece (s .base .n) (s .base .states) p) (other : s .base .states ! p ≡ 2 → ⊥) where
   pub bin-linked : true ≡ linkedTo (s .base .n) (s .base .links) p → DidTables (Bin p) s list (tablesEffect (answered (Refused Linked)) s list)
-  bin-linked e = own-refused bin-names below live other (subst T (e ∙ sym (isLinked-is (s .base) p)) tt, refl)
+  unfolding refusedBy
+  bin-linked e = own-refused bin-names (named .right) Linked other (subst T (e ∙ sym (isLinked-is (s .base) p)) tt, refl)
 
 -- ---- the edited base
 
@@ -50,8 +52,7 @@ module _ {s : Tables} {list : List ℕ} {p : ℕ} (below : p < s .base .n) (live
 pub record Binning (s : Tables) (list : List ℕ) (p : ℕ) : Type 0 where
   pub ready : Ready s
   pub room : s .base .n ≤ length list
-  pub below : p < s .base .n
-  pub live : s .base .states ! p ≡ 0 → ⊥
+  pub named : NamedPiece (s .base .n) (s .base .states) p
   pub other : s .base .states ! p ≡ 2 → ⊥
   pub alone : false ≡ linkedTo (s .base .n) (s .base .links) p
 
@@ -60,20 +61,20 @@ module _ {s : Tables} {list : List ℕ} {p : ℕ} (g : Binning s list p) where
   b = s .base
 
   bin-passes : Passes b (Bin p)
-  bin-passes = names-pass bin-names (g .below) (g .live) (g .other) (subst (λ (x : Bool). T (not x)) (g .alone ∙ sym (isLinked-is b p)) tt, tt)
+  bin-passes = names-pass bin-names (g .named .right) (g .other) (subst (λ (x : Bool). T (not x)) (g .alone ∙ sym (isLinked-is b p)) tt, tt)
 
   draft : state b p ≡ 1
   unfolding state isFree isFrozen
   draft =
-      live-draft b p (wells-of s (g .ready) p (g .below)) (neqb-of {m = b .states ! p} {n = 0} (g .live))
+      live-draft b p (wells-of s (g .ready) p (g .named .below)) (neqb-of {m = b .states ! p} {n = 0} (g .named .live))
       (neqb-of {m = b .states ! p} {n = 2} (g .other))
 
   pub emptying : Emptying (b .n) (b .links) (s .leaders) (s .counts) p
   emptying = record {
     labelled = labelled-of (g .ready);
     links-n = g .ready .sized .base .links;
-    below = g .below;
-    bare = exact-of s (g .ready) .others p (g .below) (λ s. absurd (let d = draft in omega arith));
+    below = g .named .below;
+    bare = exact-of s (g .ready) .others p (g .named .below) (λ s. absurd (let d = draft in omega arith));
     holds = b .holds;
     most = holds-most s (g .ready);
     matches = match-of s (g .ready);
@@ -127,7 +128,7 @@ module _ {s : Tables} {list : List ℕ} {p : ℕ} (g : Binning s list p) where
       ⊎-elim
       (λ w. w .1 ∙ sym (pick-true (eqb p r) 0 (getD (b .states) r 0) (eqb-of (sym (w .0)))))
       (λ w. w .1 ∙ sym (pick-false (eqb p r) 0 (getD (b .states) r 0) (neqb-of (λ x. w .0 (sym x)))))
-      (set-cases (b .states) p 0 r 0 (omega (arith, g .below, g .ready .sized .base .states)))
+      (set-cases (b .states) p 0 r 0 (omega (arith, g .named .below, g .ready .sized .base .states)))
       ∙ sym (getD-table (λ r. pick (eqb p r) 0 (getD (b .states) r 0)) (b .n) r 0 l))
 
   holds-are : b .holds ≡ e .holds
@@ -141,7 +142,7 @@ module _ {s : Tables} {list : List ℕ} {p : ℕ} (g : Binning s list p) where
       (T-dec (eqb p r)) ∙ sym (getD-table (λ r. pick (eqb p r) 0 (getD (b .holds) r 0)) (b .n) r 0 l))
     where
       none-held : getD (b .holds) p 0 ≡ 0
-      none-held = unfold holdsOf in draft-of b p (wells-of s (g .ready) p (g .below)) draft .holds
+      none-held = unfold holdsOf in draft-of b p (wells-of s (g .ready) p (g .named .below)) draft .holds
 
   -- ---- the tables after the edit
 

@@ -12,7 +12,7 @@ use Rattle.rules.specs.Tables.{tablesOn, Base, Tables, state, isFree, isDraft, 
 use Rattle.rules.specs.Words.{Frozen, Well}
 use Rattle.rules.specs.Lists.{first, _!_}
 use Rattle.rules.specs.Commands.{accepted, tableRefusals, atLimit, notHeld, edit, withHolds, oneMore, oneLess, after, settles, freedBy, valueOf, nextTables}
-use Rattle.rules.specs.Calls.{answered, acceptedBy, doneBy, listing, fresh, Ready}
+use Rattle.rules.specs.Calls.{answered, refusedBy, acceptedBy, doneBy, listing, fresh, Ready}
 use Rattle.rules.specs.declared.Refusal.the-variants.{Limit, NotHeld}
 use Rattle.rules.specs.declared.Command.the-variants.{Acquire, Release}
 use Rattle.rules.specs.declared.Answer.{Answer}
@@ -29,6 +29,7 @@ use Rattle.tallies.specs.Moves.{match-hold, hold-counts}
 use Rattle.tallies.specs.Exact.{Exact, label-below}
 use Rattle.tallies.specs.Finished.{finished}
 use Rattle.tallies.specs.Stores.{good-of, wells-of, exact-of, match-of, counted-of, counts-most}
+use Rattle.naming.specs.Told.{NamedPiece}
 use Rattle.falling.specs.Queue.{lengths-kept}
 use Rattle.falling.specs.Fall.{Begin, OthersCounted}
 use Rattle.editing.specs.Started.{lengths-of, exact-kept, Edited}
@@ -45,7 +46,7 @@ abbrev withHold : Tables → ℕ → ℕ → ℕ → Tables
 withHold s p h c =
     tablesOn (withHolds (s .base) (set (s .base .holds) p h)) (s .leaders) (set (s .counts) (leads s p) c)
 
-module _ {s : Tables} {p : ℕ} (o : Ready s) (below : p < s .base .n) (live : s .base .states ! p ≡ 0 → ⊥) (other : s .base .states ! p ≡ 1 → ⊥) where
+module _ {s : Tables} {p : ℕ} (o : Ready s) (named : NamedPiece (s .base .n) (s .base .states) p) (other : s .base .states ! p ≡ 1 → ⊥) where
   abbrev b : Base
   b = s .base
 
@@ -55,12 +56,12 @@ module _ {s : Tables} {p : ℕ} (o : Ready s) (below : p < s .base .n) (live : s
   p-frozen : Frozen b p
   unfolding state isFree isDraft
   p-frozen = record {
-    below = below;
-    is = live-frozen b p (wells-of s o p below) (neqb-of {m = b .states ! p} {n = 0} live) (neqb-of {m = b .states ! p} {n = 1} other);
+    below = named .below;
+    is = live-frozen b p (wells-of s o p (named .below)) (neqb-of {m = b .states ! p} {n = 0} (named .live)) (neqb-of {m = b .states ! p} {n = 1} other);
   }
 
   label-p : label (s .leaders) p ≡ l
-  label-p = getD-any (s .leaders) p none 0 (omega (arith, o .sized .leaders))
+  label-p = getD-any (s .leaders) p none 0 (omega (arith, o .sized .leaders, named .below))
 
   l-n : l < b .n
   l-n = subst (λ (x : ℕ). x < b .n) label-p (label-below b (s .leaders) (exact-of s o) p p-frozen)
@@ -82,22 +83,22 @@ module _ {s : Tables} {p : ℕ} (o : Ready s) (below : p < s .base .n) (live : s
     match-e : (x : ℕ) → x + b .holds ! p ≡ s .counts ! l + h
         → CountsMatch (b .n) (b .links) (set (b .holds) p h) (s .leaders) (set (s .counts) l x)
     match-e x q =
-        match-hold (b .n) (b .links) (b .holds) (s .leaders) (s .counts) (o .sized .counts) (match-of s o) p h x l below
-        (omega (arith, o .sized .base .holds)) label-p l-n q
+        match-hold (b .n) (b .links) (b .holds) (s .leaders) (s .counts) (o .sized .counts) (match-of s o) p h x l (named .below)
+        (omega (arith, o .sized .base .holds, named .below)) label-p l-n q
 
   -- ---- acquire
 
   pub acquire-limit : 1000 ≤ b .holds ! p → DidTables (Acquire p 0) s [] (tablesEffect (answered (Refused Limit)) s [])
-  unfolding atLimit holdsOf
+  unfolding atLimit holdsOf refusedBy
   acquire-limit h =
-      own-refused acquire-names below live other
+      own-refused acquire-names (named .right) Limit other
       (and-both (isFrozen b p) (leb 1000 (b .holds ! p)) (→isFrozen b p (p-frozen .is)) (le→leb 1000 (b .holds ! p) h), refl)
 
   module _ (few : b .holds ! p < 1000) where
     acquire-passes : Passes b (Acquire p 0)
     unfolding atLimit holdsOf
     acquire-passes =
-        names-pass acquire-names below live other (
+        names-pass acquire-names (named .right) other (
           not-T (isFrozen b p & leb 1000 (b .holds ! p))
               (λ t. omega (arith, leb→le 1000 (b .holds ! p) (and-right (isFrozen b p) (leb 1000 (b .holds ! p)) t))),
           tt,
@@ -133,30 +134,29 @@ module _ {s : Tables} {p : ℕ} (o : Ready s) (below : p < s .base .n) (live : s
 
 -- ---- release
 
-module _ {s : Tables} {list : List ℕ} {p : ℕ} (below : p < s .base .n) (live : s .base .states ! p ≡ 0 → ⊥) (other : s .base .states ! p ≡ 1 → ⊥) where
+module _ {s : Tables} {list : List ℕ} {p : ℕ} (named : NamedPiece (s .base .n) (s .base .states) p) (other : s .base .states ! p ≡ 1 → ⊥) where
   pub release-held : s .base .holds ! p ≡ 0 → DidTables (Release p 0) s list (tablesEffect (answered (Refused NotHeld)) s list)
-  unfolding notHeld holdsOf
-  release-held h = own-refused release-names below live other (eqb-of {m = s .base .holds ! p} {n = 0} h, refl)
+  unfolding notHeld holdsOf refusedBy
+  release-held h = own-refused release-names (named .right) NotHeld other (eqb-of {m = s .base .holds ! p} {n = 0} h, refl)
 
 -- a release that is accepted, on sound tables, with room for the list
 pub record Releasing (s : Tables) (list : List ℕ) (p : ℕ) : Type 0 where
   pub ready : Ready s
   pub room : s .base .n ≤ length list
-  pub below : p < s .base .n
-  pub live : s .base .states ! p ≡ 0 → ⊥
+  pub named : NamedPiece (s .base .n) (s .base .states) p
   pub other : s .base .states ! p ≡ 1 → ⊥
   pub some : s .base .holds ! p ≡ 0 → ⊥
 
 module _ {s : Tables} {list : List ℕ} {p : ℕ} (g : Releasing s list p) where
   abbrev led : (leads s p < s .base .n) × (label (s .leaders) p ≡ leads s p)
-  led = (l-n (g .ready) (g .below) (g .live) (g .other), label-p (g .ready) (g .below) (g .live) (g .other))
+  led = (l-n (g .ready) (g .named) (g .other), label-p (g .ready) (g .named) (g .other))
 
   l-counted : 0 < s .counts ! leads s p
   l-counted =
       omega (
         arith,
         g .some,
-        hold-counts (s .base .n) (s .base .links) (s .base .holds) (s .leaders) p (leads s p) (g .below) (led .1),
+        hold-counts (s .base .n) (s .base .links) (s .base .holds) (s .leaders) p (leads s p) (g .named .below) (led .1),
         match-of s (g .ready) (leads s p) (led .0),
       )
 
@@ -166,7 +166,7 @@ module _ {s : Tables} {list : List ℕ} {p : ℕ} (g : Releasing s list p) where
 
   release-passes : Passes (s .base) (Release p 0)
   unfolding notHeld holdsOf
-  release-passes = names-pass release-names (g .below) (g .live) (g .other) (neqb-of {m = s .base .holds ! p} {n = 0} (g .some), tt)
+  release-passes = names-pass release-names (g .named .right) (g .other) (neqb-of {m = s .base .holds ! p} {n = 0} (g .some), tt)
 
   pub release-accepted : (i : ℕ) → tableVerdict (s .base) (Release p i) ≡ accepted
   unfolding tableVerdict tableRefusals
@@ -188,9 +188,9 @@ module _ {s : Tables} {list : List ℕ} {p : ℕ} (g : Releasing s list p) where
   begin-release : Begin (s₁ .base) (s .leaders) (s₁ .counts) list
   unfolding withHolds
   begin-release = record {
-    known = record { exact = exact-e (g .ready) (g .below) (g .live) (g .other) (s .base .holds ! p - 1) wells-less; wells = wells-less };
+    known = record { exact = exact-e (g .ready) (g .named) (g .other) (s .base .holds ! p - 1) wells-less; wells = wells-less };
     matches =
-        match-e (g .ready) (g .below) (g .live) (g .other) (s .base .holds ! p - 1) wells-less (s .counts ! leads s p - 1)
+        match-e (g .ready) (g .named) (g .other) (s .base .holds ! p - 1) wells-less (s .counts ! leads s p - 1)
         (omega (arith, g .some, l-counted));
     lengths = lengths-kept (lengths-of (g .ready) list (g .room)) refl refl (length-set (s .counts) (leads s p) (s .counts ! leads s p - 1)) refl;
   }

@@ -3,7 +3,6 @@ pub mod Names
 pub mod Started
 pub mod Holds
 pub mod Relink
-pub mod Targets
 pub mod Set
 pub mod Linked
 pub mod Emptied

@@ -1,95 +1,67 @@
--- The commands that name one piece: their rows on its number and its state, which stand first.
-use mathlib.Core.Path.{_≡_, refl, sym, ap, _∙_, subst}
-use mathlib.Core.Bool.{Bool, not}
+-- The commands that ask for a piece's state: their rows behind those for names.
+use mathlib.Core.Path.{_≡_, refl, _∙_}
+use mathlib.Core.Bool.{Bool}
 use mathlib.Core.List.{List, [], _∷_}
-use Prim.Native.Nat.{ℕ, _≤_, _<_}
-use native.Mathlib.Omega.{arith}
+use Prim.Native.Nat.{ℕ}
+use lib.Dec.{eqb}
 use lib.ListN.{length}
-use lib.Dec.{T, not-T, eqb, ltb, ltb→lt, lt→ltb}
-use Rattle.rules.specs.Tables.{Base, Tables, state, isFree, isDraft, isFrozen}
-use Rattle.rules.specs.Commands.{firstOf, tableRefusals, atLimit, notHeld, isLinked}
-use Rattle.rules.specs.Calls.{Reply, answered, refusedBy}
-use Rattle.rules.specs.declared.Refusal.{Refusal}
-use Rattle.rules.specs.declared.Refusal.the-variants.{Number, Free, State, Limit, NotHeld, Linked}
-use Rattle.rules.specs.declared.Command.{Command}
-use Rattle.rules.specs.declared.Command.the-variants.{Acquire, Release, Bin}
-use Rattle.rules.specs.declared.Answer.the-variants.{Refused}
-use Rattle.laws.specs.Words.{eqb-of, neqb-of}
-use Rattle.laws.specs.Passes.{Passed, Passes, tableVerdict}
-use Rattle.laws.specs.Rows.{Applies, first-at}
-use Rattle.laws.specs.ByTables.{did-refused}
-use Rattle.laws.specs.Calls.{double-not}
 use Rattle.rules.specs.Lists.{_!_}
-use Rattle.laws.specs.ByTables.{DidTables, tablesEffect}
+use Rattle.rules.specs.Tables.{Base, Tables, state, isFree, isDraft, isFrozen}
+use Rattle.rules.specs.Commands.{accepted, firstOf, tableRefusals, atLimit, notHeld, isLinked}
+use Rattle.rules.specs.Calls.{refusedBy}
+use Rattle.rules.specs.declared.Refusal.{Refusal}
+use Rattle.rules.specs.declared.Refusal.the-variants.{State, Limit, NotHeld, Linked}
+use Rattle.rules.specs.declared.Command.{Command}
+use Rattle.rules.specs.declared.Command.the-variants.{Set, Acquire, Release, Bin}
+use Rattle.laws.specs.Words.{eqb-of, neqb-of}
+use Rattle.laws.specs.Passes.{Passed, Passes, passes}
+use Rattle.laws.specs.Rows.{Applies, first-at, first-none}
+use Rattle.laws.specs.ByTables.{DidTables, tablesEffect, did-refused}
+use Rattle.naming.specs.Rows.{beyond, pieceRows, linkRows}
+use Rattle.naming.specs.Names.{Names, names-passed}
 
--- the rows of a command that names p and is not for a piece whose state is k, before its own
-abbrev pub rowsOf : Base → ℕ → ℕ → List (Bool × Refusal) → List (Bool × Refusal)
-rowsOf b p k own = (not (ltb p (b .n)), Number) ∷ (isFree b p, Free) ∷ (eqb (state b p) k, State) ∷ own
+-- the row for p's state, which is not to be k, and then its own
+abbrev pub stateRows : Base → ℕ → ℕ → List (Bool × Refusal) → List (Bool × Refusal)
+stateRows b p k own = (eqb (state b p) k, State) ∷ own
 
--- c is such a command
-pub record Names (b : Base) (c : Command) (p k : ℕ) (own : List (Bool × Refusal)) : Type 0 where
-  pub rows : tableRefusals b c ≡ rowsOf b p k own
-  pub says : (r : Refusal) → refusedBy r c ≡ answered (Refused r)
+-- c is not for a piece p whose state is k: these rows stand behind those for names
+pub record NotFor (b : Base) (c : Command) (names : List (Bool × Refusal)) (p k : ℕ) (own : List (Bool × Refusal)) : Type 0 where
+  pub first : Names b c names (stateRows b p k own)
 
 module _ {b : Base} {p : ℕ} where
-  pub acquire-names : Names b (Acquire p 0) p 1 ((atLimit b p, Limit) ∷ [])
-  unfolding tableRefusals isDraft refusedBy
-  acquire-names = record { rows = refl; says = λ r. refl }
+  pub set-names : {k t : ℕ} → NotFor b (Set p k t) (linkRows (b .n) (b .states) p k t) p 2 []
+  unfolding tableRefusals isFree isFrozen state linkRows beyond
+  set-names = record { first = record { rows = refl } }
 
-  pub release-names : Names b (Release p 0) p 1 ((notHeld b p, NotHeld) ∷ [])
-  unfolding tableRefusals isDraft refusedBy
-  release-names = record { rows = refl; says = λ r. refl }
+  pub acquire-names : {i : ℕ} → NotFor b (Acquire p i) (pieceRows (b .n) (b .states) p) p 1 ((atLimit b p, Limit) ∷ [])
+  unfolding tableRefusals isFree isDraft state pieceRows
+  acquire-names = record { first = record { rows = refl } }
 
-  pub bin-names : Names b (Bin p) p 2 ((isLinked b p, Linked) ∷ [])
-  unfolding tableRefusals isFrozen refusedBy
-  bin-names = record { rows = refl; says = λ r. refl }
+  pub release-names : {i : ℕ} → NotFor b (Release p i) (pieceRows (b .n) (b .states) p) p 1 ((notHeld b p, NotHeld) ∷ [])
+  unfolding tableRefusals isFree isDraft state pieceRows
+  release-names = record { first = record { rows = refl } }
 
--- ---- the rows that it passes
+  pub bin-names : NotFor b (Bin p) (pieceRows (b .n) (b .states) p) p 2 ((isLinked b p, Linked) ∷ [])
+  unfolding tableRefusals isFree isFrozen state pieceRows
+  bin-names = record { first = record { rows = refl } }
 
-module _ (b : Base) (p k : ℕ) (below : p < b .n) where
-  number-right : T (not (not (ltb p (b .n))))
-  number-right = double-not (ltb p (b .n)) (lt→ltb p (b .n) below)
+-- ---- right names, and another state: its own rows are left
 
-  module _ (live : b .states ! p ≡ 0 → ⊥) where
-    free-right : T (not (isFree b p))
-    unfolding state isFree
-    free-right = neqb-of {m = b .states ! p} {n = 0} live
+pub names-pass : {b : Base} {c : Command} {names own : List (Bool × Refusal)} {p k : ℕ} → NotFor b c names p k own → firstOf names ≡ accepted
+    → (b .states ! p ≡ k → ⊥) → Passed (length own) own → Passes b c
+unfolding state
+names-pass {b} {c} {names} {own} {p} {k} m right other rest =
+    passes b c (names-passed (m .first) right ∙ first-none (stateRows b p k own) (neqb-of {m = b .states ! p} {n = k} other, rest))
 
-    state-right : (b .states ! p ≡ k → ⊥) → T (not (eqb (state b p) k))
-    unfolding state
-    state-right other = neqb-of {m = b .states ! p} {n = k} other
+-- ---- the refusals behind right names
 
--- what is left are the command's own
-pub names-pass : {b : Base} {c : Command} {p k : ℕ} {own : List (Bool × Refusal)} → Names b c p k own → p < b .n → (b .states ! p ≡ 0 → ⊥) → (b .states ! p ≡ k → ⊥)
-    → Passed (length own) own → Passes b c
-names-pass {b} {c} {p} {k} m below live other rest = record {
-  rows = subst (λ (rows : List (Bool × Refusal)). Passed (length rows) rows) (sym (m .rows))
-      (number-right b p k below, (free-right b p k below live, (state-right b p k below live other, rest)));
-}
+module _ {s : Tables} {c : Command} {l : List ℕ} {names own : List (Bool × Refusal)} {p k : ℕ} (m : NotFor (s .base) c names p k own)
+    (right : firstOf names ≡ accepted) where
+  pub state-refused : s .base .states ! p ≡ k → DidTables c s l (tablesEffect (refusedBy State c) s l)
+  unfolding state
+  state-refused e = did-refused c s l State (names-passed (m .first) right ∙ first-at 0 (stateRows (s .base) p k own) State tt (eqb-of {m = s .base .states ! p} {n = k} e, refl))
 
--- ---- the refusals
-
-module _ {s : Tables} {c : Command} {l : List ℕ} {p k : ℕ} {own : List (Bool × Refusal)} (m : Names (s .base) c p k own) where
-  -- what a refusal says and leaves
-  refusal : (i : ℕ) (r : Refusal) → Passed i (rowsOf (s .base) p k own) → Applies i (rowsOf (s .base) p k own) r → DidTables c s l (tablesEffect (answered (Refused r)) s l)
-  refusal i r passed applies =
-      subst (λ (x : Reply). DidTables c s l (tablesEffect x s l)) (m .says r)
-      (did-refused c s l r (unfold tableVerdict in (ap firstOf (m .rows) ∙ first-at i (rowsOf (s .base) p k own) r passed applies)))
-
-  pub number-refused : s .base .n ≤ p → DidTables c s l (tablesEffect (answered (Refused Number)) s l)
-  number-refused h = refusal 0 Number tt (not-T (ltb p (s .base .n)) (λ t. omega (arith, ltb→lt p (s .base .n) t)), refl)
-
-  module _ (below : p < s .base .n) where
-    pub free-refused : s .base .states ! p ≡ 0 → DidTables c s l (tablesEffect (answered (Refused Free)) s l)
-    unfolding state isFree
-    free-refused e = refusal 1 Free (number-right (s .base) p k below, tt) (eqb-of {m = s .base .states ! p} {n = 0} e, refl)
-
-    module _ (live : s .base .states ! p ≡ 0 → ⊥) where
-      pub state-refused : s .base .states ! p ≡ k → DidTables c s l (tablesEffect (answered (Refused State)) s l)
-      unfolding state
-      state-refused e =
-          refusal 2 State (number-right (s .base) p k below, (free-right (s .base) p k below live, tt)) (eqb-of {m = s .base .states ! p} {n = k} e, refl)
-
-      -- by the first of its own rows
-      pub own-refused : {r : Refusal} → (s .base .states ! p ≡ k → ⊥) → Applies 0 own r → DidTables c s l (tablesEffect (answered (Refused r)) s l)
-      own-refused {r} other t = refusal 3 r (number-right (s .base) p k below, (free-right (s .base) p k below live, (state-right (s .base) p k below live other, tt))) t
+  -- by the first of its own rows
+  pub own-refused : (r : Refusal) → (s .base .states ! p ≡ k → ⊥) → Applies 0 own r → DidTables c s l (tablesEffect (refusedBy r c) s l)
+  unfolding state
+  own-refused r other t = did-refused c s l r (names-passed (m .first) right ∙ first-at 1 (stateRows (s .base) p k own) r (neqb-of {m = s .base .states ! p} {n = k} other, tt) t)

@@ -1,40 +1,36 @@
 -- Set: draft P's link K becomes T, on sound tables.
 use mathlib.Core.Path.{_≡_, refl, sym, ap, _∙_, subst}
-use mathlib.Core.Logic.{_⊎_}
-use mathlib.Core.Bool.{false, not}
 use mathlib.Core.List.{List, [], _∷_}
 use Prim.Native.Nat.{ℕ, _+_, _*_, _/_, _≤_, _<_}
 use native.Mathlib.Omega.{arith}
-use lib.Dec.{T-not, eqb}
 use lib.ListN.{length, set, length-set}
 use lib.Seq.{getD-set-other}
-use Rattle.laws.specs.Tests.{same-test}
-use Rattle.rules.specs.Tests.{_&_}
-use Rattle.rules.specs.Limits.{none}
 use Rattle.rules.specs.Lists.{first, _!_}
-use Rattle.rules.specs.Tables.{Base, Tables, state, isFree, linkAt}
+use Rattle.rules.specs.Tables.{Base, Tables, state, isFree, isFrozen, linkAt}
 use Rattle.rules.specs.Words.{Frozen, Well}
-use Rattle.rules.specs.Commands.{tableRefusals, edit, withLinks, settles, valueOf}
+use Rattle.rules.specs.Commands.{edit, withLinks, settles, valueOf}
 use Rattle.rules.specs.Calls.{acceptedBy, doneBy, Ready}
-use Rattle.rules.specs.declared.Refusal.the-variants.{Number, Free, State}
 use Rattle.rules.specs.declared.Command.the-variants.{Set}
-use Rattle.laws.specs.Passes.{applies, Passes, not-by, live-draft, not-or-left}
+use Rattle.laws.specs.Words.{neqb-of}
+use Rattle.laws.specs.Passes.{Passes, live-draft}
 use Rattle.laws.specs.Commands.{edit-well}
 use Rattle.tallies.specs.Tally.{label, tally}
 use Rattle.tallies.specs.Moves.{link-moves, cross-off}
 use Rattle.tallies.specs.Exact.{Exact}
 use Rattle.tallies.specs.Stores.{good-of, wells-of, exact-of, match-of, counted-of, counts-most}
+use Rattle.naming.specs.Told.{NamedLink}
 use Rattle.falling.specs.Queue.{lengths-kept, Known}
 use Rattle.falling.specs.Fall.{Begin, OthersCounted}
 use Rattle.editing.specs.Started.{lengths-of, labelled-of, exact-kept, Edited}
 use Rattle.editing.specs.Relink.{Relinking, Relinked}
-use Rattle.editing.specs.Targets.{misnames, named}
+use Rattle.editing.specs.Names.{set-names, names-pass}
 
 -- a set that is accepted, on sound tables, with room for the list
 pub record Setting (s : Tables) (list : List ℕ) (p k t : ℕ) : Type 0 where
   pub ready : Ready s
   pub room : s .base .n ≤ length list
-  pub passes : Passes (s .base) (Set p k t)
+  pub named : NamedLink (s .base .n) (s .base .states) p k t
+  pub other : s .base .states ! p ≡ 2 → ⊥
 
 module _ {s : Tables} {list : List ℕ} {p k t : ℕ} (g : Setting s list p k t) where
   abbrev b : Base
@@ -47,26 +43,24 @@ module _ {s : Tables} {list : List ℕ} {p k t : ℕ} (g : Setting s list p k t)
   abbrev e : Base
   e = withLinks b (set (b .links) i t)
 
-  names-right : (p < b .n) × (k < 4) × ((t ≡ none) ⊎ (t < b .n))
-  unfolding tableRefusals applies misnames
-  names-right =
-      named (b .n) p k t (same-test false (misnames (b .n) p k t) (λ f. absurd f) (λ x. T-not (misnames (b .n) p k t) (not-by (g .passes) Number) x))
+  set-passes : Passes b (Set p k t)
+  set-passes = names-pass set-names (g .named .right) (g .other) tt
 
   draft : state b p ≡ 1
-  unfolding tableRefusals applies
+  unfolding state isFree isFrozen
   draft =
-      live-draft b p (wells-of s (g .ready) p (names-right .0))
-      (not-or-left (isFree b p) (not (eqb t none) & isFree b t) (not-by (g .passes) Free)) (not-by (g .passes) State)
+      live-draft b p (wells-of s (g .ready) p (g .named .below)) (neqb-of {m = b .states ! p} {n = 0} (g .named .live))
+      (neqb-of {m = b .states ! p} {n = 2} (g .other))
 
   own : i / 4 ≡ p
-  own = let x = names-right .1 in omega arith
+  own = omega (arith, g .named .inside)
 
   pub relinking : Relinking (b .n) (b .links) (s .leaders) (s .counts) i t
   relinking = record {
     labelled = labelled-of (g .ready);
     links-n = g .ready .sized .base .links;
-    inside = (let x = names-right .0 in let y = names-right .1 in omega arith);
-    bare = ap (label (s .leaders)) own ∙ exact-of s (g .ready) .others p (names-right .0) (λ z. absurd (let d = draft in omega arith));
+    inside = omega (arith, g .named .below, g .named .inside);
+    bare = ap (label (s .leaders)) own ∙ exact-of s (g .ready) .others p (g .named .below) (λ z. absurd (let d = draft in omega arith));
     few = counts-most s (g .ready);
     holds = b .holds;
     matches = match-of s (g .ready);
@@ -78,12 +72,12 @@ module _ {s : Tables} {list : List ℕ} {p k t : ℕ} (g : Setting s list p k t)
 
   wells-e : (q : ℕ) → q < e .n → Well e q
   wells-e =
-      subst (λ (x : Base). (q : ℕ) → q < x .n → Well x q) (sym edit-is) (edit-well b (g .ready .sized .base) (good-of s (g .ready)) (Set p k t) (g .passes))
+      subst (λ (x : Base). (q : ℕ) → q < x .n → Well x q) (sym edit-is) (edit-well b (g .ready .sized .base) (good-of s (g .ready)) (Set p k t) set-passes)
 
   links-e : (q j : ℕ) → Frozen b q → j < 4 → linkAt b q j ≡ linkAt e q j
   unfolding linkAt withLinks
   links-e q j f h =
-      let y = names-right .1 in
+      let y = g .named .inside in
       let d : q ≡ p → ⊥ = λ x. absurd (let u = f .is in let z = draft in let w : state b q ≡ state b p = ap (state b) x in omega arith) in
       sym (getD-set-other (b .links) i (4 * q + j) t 0 (λ x. d (omega arith)))
 
@@ -125,7 +119,7 @@ module _ {s : Tables} {list : List ℕ} {p k t : ℕ} (g : Setting s list p k t)
     pub set-edited : Edited (Set p k t) s list e₁ counts₁ (old ∷ [])
     unfolding settles acceptedBy doneBy valueOf withLinks
     set-edited = record {
-      passes = g .passes;
+      passes = set-passes;
       on = refl;
       says = refl;
       is = sym same-e ∙ edit-is;

@@ -2,9 +2,9 @@
 use mathlib.Core.Path.{_≡_, refl, sym, ap, _∙_}
 use mathlib.Core.List.{List, [], _∷_}
 use mathlib.Core.Bool.{Bool, true, false, not}
-use Prim.Native.Nat.{ℕ, _≤_, _<_}
+use Prim.Native.Nat.{ℕ, _<_}
 use native.Mathlib.Omega.{arith}
-use lib.Dec.{T, not-T, eqb, ltb, leb, lt→ltb, ltb→lt}
+use lib.Dec.{T, eqb, leb}
 use Rattle.rules.specs.Tests.{_&_}
 use Rattle.rules.specs.Limits.{mostHolds}
 use Rattle.rules.specs.Tables.{Base, Tables, tablesOf, storeOn, storeOf, state, isFree, isDraft, isFrozen, holdsOf, finish}
@@ -22,55 +22,45 @@ use Rattle.laws.specs.ByTables.{DidTables, tablesEffect}
 use Rattle.laws.specs.Below.{pick-true}
 use Rattle.laws.specs.Words.{neqb-of, isDraft→, →isFrozen}
 use Rattle.laws.specs.Passes.{applies, Passes, not-by, passes, live-frozen, tableVerdict}
-use Rattle.laws.specs.ByTables.{accepts, refuses, did-refused, did-accepted}
-use Rattle.laws.specs.Rows.{andThen}
+use Rattle.laws.specs.ByTables.{did-accepted}
+use Rattle.laws.specs.Rows.{andThen, first-none}
 use Rattle.laws.specs.Verdicts.{seatVerdict, registerVerdict, verdict-is, all-accept}
-use Rattle.laws.specs.Seated.{freeze-adds, any-freeze, refused-tables, refused-line, done-more}
-use Rattle.laws.specs.Calls.{double-not, ready-tables}
+use Rattle.laws.specs.Seated.{freeze-adds, any-freeze, refused-line, done-more}
+use Rattle.laws.specs.Calls.{ready-tables}
 use Rattle.laws.specs.Tests.{same-test}
 use Rattle.tallies.specs.Stores.{wells-of}
+use Rattle.naming.specs.Rows.{pieceRows}
+use Rattle.naming.specs.Told.{NamedPiece}
+use Rattle.naming.specs.Names.{Names, names-passed}
 use Rattle.holding.specs.Acquired.{none-said, room-said}
 
 and-off : (x y : Bool) → T (not x) → T (not (x & y))
 and-off true y t = absurd t
 and-off false y t = tt
 
-by-number : {s : Tables} {p : ℕ} → s .base .n ≤ p → DidTables (Freeze p 0) s [] (tablesEffect (answered (Refused Number)) s [])
-unfolding refusedBy tableRefusals
-by-number {s} {p} h =
-    let n : ℕ = s .base .n in
-    did-refused (Freeze p 0) s [] Number (refuses 0 (s .base) (Freeze p 0) Number tt (not-T (ltb p n) (λ t. let x = ltb→lt p n t in omega arith), refl))
+-- behind the rows for its name freeze has LIMIT alone
+pub freeze-names : {b : Base} {p i : ℕ} → Names b (Freeze p i) (pieceRows (b .n) (b .states) p) ((atLimit b p, Limit) ∷ [])
+unfolding tableRefusals isFree state pieceRows
+freeze-names = record { rows = refl }
 
-module _ {s : Tables} (ready : Ready s) {p : ℕ} (h : p < s .base .n) where
+module _ {s : Tables} (ready : Ready s) {p : ℕ} (named : NamedPiece (s .base .n) (s .base .states) p) where
   abbrev b : Base
   b = s .base
-
-  known : T (not (noPiece b p))
-  known = double-not (ltb p (b .n)) (lt→ltb p (b .n) h)
 
   -- ---- a draft
 
   module _ (e : s .base .states ! p ≡ 1) where
-    draft-passes : Passes b (Freeze p 0)
-    unfolding tableRefusals atLimit isFree isFrozen state
-    draft-passes = record {
-      rows = (
-        known,
-        (
-          neqb-of {m = b .states ! p} {n = 0} (λ x. omega arith),
-          (and-off (eqb (b .states ! p) 2) (leb mostHolds (holdsOf b p)) (neqb-of {m = b .states ! p} {n = 2} (λ x. omega arith)), tt),
-        ),
-      );
-    }
-
     -- no seat is refused by the tables
     draft-accepted : (i : ℕ) → tableVerdict b (Freeze p i) ≡ accepted
-    unfolding tableVerdict tableRefusals
-    draft-accepted i = accepts draft-passes
+    unfolding atLimit isFrozen state
+    draft-accepted i =
+        names-passed freeze-names (named .right)
+        ∙ first-none ((atLimit b p, Limit) ∷ [])
+        (and-off (eqb (b .states ! p) 2) (leb mostHolds (holdsOf b p)) (neqb-of {m = b .states ! p} {n = 2} (λ x. omega arith)), tt)
 
     -- it is frozen
     draft-did : {s′ : Tables} → s′ ≡ nextTables s (Freeze p 0) → DidTables (Freeze p 0) s [] (tablesEffect (answered fresh) s′ [])
-    draft-did {s′} same = record { exact = all ∙ did-accepted (Freeze p 0) s [] (accepts draft-passes) .exact }
+    draft-did {s′} same = record { exact = all ∙ did-accepted (Freeze p 0) s [] (draft-accepted 0) .exact }
       where
         reply : answered fresh ≡ acceptedBy s (Freeze p 0)
         reply = unfold acceptedBy doneBy valueOf freedBy settles in refl
@@ -85,7 +75,7 @@ module _ {s : Tables} (ready : Ready s) {p : ℕ} (h : p < s .base .n) where
 
   module _ (d : s .base .states ! p ≡ 1 → ⊥) (i : ℕ) where
     no-draft : false ≡ isDraft b p
-    no-draft = same-test false (isDraft b p) (λ t. absurd t) (λ t. absurd (d (unfold state in (isDraft→ b p h t .is))))
+    no-draft = same-test false (isDraft b p) (λ t. absurd t) (λ t. absurd (d (unfold state in (isDraft→ b p (named .below) t .is))))
 
     rows : Bool → List (Bool × Refusal)
     rows t = (noPiece b p, Number) ∷ (isFree b p, Free) ∷ (t, State) ∷ (atLimit b p, Limit) ∷ []
@@ -120,7 +110,7 @@ module _ {s : Tables} (ready : Ready s) {p : ℕ} (h : p < s .base .n) where
         ps = passes b (Acquire p i) (all-accept e .tables)
 
         frozen : T (isFrozen b p)
-        frozen = →isFrozen b p (live-frozen b p (wells-of s ready p h) (unfold tableRefusals applies in (not-by ps Free)) (unfold tableRefusals applies in (not-by ps State)))
+        frozen = →isFrozen b p (live-frozen b p (wells-of s ready p (named .below)) (unfold tableRefusals applies in (not-by ps Free)) (unfold tableRefusals applies in (not-by ps State)))
 
         reply : acceptedBy s (Acquire p i) ≡ acceptedBy s (Freeze p i)
         reply = unfold acceptedBy doneBy valueOf freedBy settles in refl
@@ -136,20 +126,15 @@ module _ {s : Tables} (ready : Ready s) {p : ℕ} (h : p < s .base .n) where
 
 -- ---- the arms of freeze
 
-module _ {n p seat : ℕ} {states links leaders holds counts register : List ℕ} (sits : seat < 32) where
-  pub freeze-number : n ≤ p → Did (Freeze p seat) (storeOf n states links leaders holds counts register) []
-      (effect (answered (Refused Number)) (storeOf n states links leaders holds counts register) [])
-  freeze-number h = refused-tables (freeze-adds .seat) sits (any-freeze (by-number h))
-
 module _ {n p seat : ℕ} {states links leaders holds counts register : List ℕ} (ready : ReadyStore (storeOf n states links leaders holds counts register))
-    (sits : seat < 32) (below : p < n) where
+    (sits : seat < 32) (named : NamedPiece n states p) where
   -- a draft, and no line is free
   pub freeze-crowded : {r : Bool} → states ! p ≡ 1 → not r ≡ true → r ≡ not (eqb (heldBy register seat p) 0 & isFull register)
       → Did (Freeze p seat) (storeOf n states links leaders holds counts register) []
       (effect (answered (Refused Register)) (storeOf n states links leaders holds counts register) [])
   unfolding noLine
   freeze-crowded {r} is none said =
-      refused-line freeze-adds sits (draft-accepted (ready-tables ready) below is seat) (none-said r (noLine register seat p) none said)
+      refused-line freeze-adds sits (draft-accepted (ready-tables ready) named is seat) (none-said r (noLine register seat p) none said)
 
   -- a draft that is frozen
   pub freeze-did : {r : Bool} {states′ leaders′ holds′ counts′ register′ : List ℕ} {a : Answer} → states ! p ≡ 1
@@ -162,7 +147,7 @@ module _ {n p seat : ℕ} {states links leaders holds counts register : List ℕ
   freeze-did {r} {states′} {leaders′} {holds′} {counts′} is room said same more answers = record {
     exact =
         (λ k. effect (answered (answers k)) (storeOn (tablesOf n states′ links leaders′ holds′ counts′) (more k)) [])
-        ∙ done-more freeze-adds sits (room-said r (noLine register seat p) room said) (any-freeze (draft-did (ready-tables ready) below is same)) refl .exact;
+        ∙ done-more freeze-adds sits (room-said r (noLine register seat p) room said) (any-freeze (draft-did (ready-tables ready) named is same)) refl .exact;
   }
 
   -- any other piece
@@ -172,6 +157,6 @@ module _ {n p seat : ℕ} {states links leaders holds counts register : List ℕ
   again-did d x = record {
     exact =
         x .exact
-        ∙ same-effect (ready-tables ready) below d seat register (verdict (storeOf n states links leaders holds counts register) (Acquire p seat)) refl
-        ∙ ap (effected (storeOf n states links leaders holds counts register) [] (Freeze p seat)) (sym (same-verdict (ready-tables ready) below d seat register));
+        ∙ same-effect (ready-tables ready) named d seat register (verdict (storeOf n states links leaders holds counts register) (Acquire p seat)) refl
+        ∙ ap (effected (storeOf n states links leaders holds counts register) [] (Freeze p seat)) (sym (same-verdict (ready-tables ready) named d seat register));
   }

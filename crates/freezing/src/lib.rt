@@ -10,6 +10,7 @@ ghost use Rattle.rules.specs.Commands.{nextTables};
 ghost use Rattle.rules.specs.declared.Command.the-variants.{Freeze};
 ghost use Rattle.freezing.specs.Freezable.{Freezable};
 ghost use Rattle.freezing.specs.Lone.{Lone, Findable, Found, wiped};
+use naming::Name;
 use rules::Answer;
 use rules::Refusal;
 use rules::Store;
@@ -108,10 +109,11 @@ pub fn freeze(
     if Store::SEATS <= seat {
         return Answer::Refused(Refusal::Seat);
     }
-    let q = p as usize;
-    if n <= q {
-        return Answer::Refused(Refusal::Number);
+    match naming::piece(n, states, p) {
+        Name::Wrong(refusal) => return Answer::Refused(refusal),
+        Name::Right => {}
     }
+    let q = p as usize;
     if states[q] == Store::DRAFT {
         let line = register::find(register, seat, p);
         if !register::has_room(register, line, seat, p) {

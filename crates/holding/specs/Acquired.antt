@@ -20,6 +20,7 @@ use Rattle.rules.specs.declared.Answer.the-variants.{Refused}
 use Rattle.laws.specs.Numbers.{lt-or}
 use Rattle.laws.specs.Calls.{ready-tables}
 use Rattle.laws.specs.Seated.{acquire-adds, any-acquire, refused-line, done-more}
+use Rattle.naming.specs.Told.{NamedPiece}
 use Rattle.register.specs.Room.{Room}
 use Rattle.register.specs.Kept.{right-ranged}
 use Rattle.editing.specs.Holds.{leader-in, acquire-accepted, acquired}
@@ -31,7 +32,7 @@ pub record Acquiring (n : ℕ) (states leaders holds counts register : List ℕ)
   pub leaders-n : length leaders ≡ n
   pub holds-n : length holds ≡ n
   pub counts-n : length counts ≡ n
-  pub led : (p : ℕ) → p < n → (states ! p ≡ 0 → ⊥) → (states ! p ≡ 1 → ⊥) → (leaders ! p < n) × (counts ! (leaders ! p) < 1028097)
+  pub led : (p : ℕ) → NamedPiece n states p → (states ! p ≡ 1 → ⊥) → (leaders ! p < n) × (counts ! (leaders ! p) < 1028097)
   pub right : Right n register
 
 -- a sound store's areas do
@@ -43,7 +44,7 @@ acquiring-of o = record {
   leaders-n = o .sized .tables .leaders;
   holds-n = o .sized .tables .base .holds;
   counts-n = o .sized .tables .counts;
-  led = λ p below live other. let r = leader-in (ready-tables o) below live other in (r .1, r .3);
+  led = λ p named other. let r = leader-in (ready-tables o) named other in (r .1, r .3);
   right = o .sound .register;
 }
 
@@ -84,14 +85,14 @@ room-told l i p {r} e f = subst T (room-said r (eqb (heldBy l i p) 0 & isFull l)
 -- ---- one hold more is acquire
 
 module _ {n p seat : ℕ} {states links leaders holds counts register : List ℕ} (ready : ReadyStore (storeOf n states links leaders holds counts register))
-    (sits : seat < 32) (below : p < n) (live : states ! p ≡ 0 → ⊥) (other : states ! p ≡ 1 → ⊥) where
+    (sits : seat < 32) (named : NamedPiece n states p) (other : states ! p ≡ 1 → ⊥) where
   -- no line is free
   pub crowded : {r : Bool} → holds ! p < 1000 → not r ≡ true → r ≡ not (eqb (heldBy register seat p) 0 & isFull register)
       → Did (Acquire p seat) (storeOf n states links leaders holds counts register) []
       (effect (answered (Refused Register)) (storeOf n states links leaders holds counts register) [])
   unfolding noLine
   crowded {r} few none said =
-      refused-line acquire-adds sits (acquire-accepted (ready-tables ready) below live other few seat) (none-said r (noLine register seat p) none said)
+      refused-line acquire-adds sits (acquire-accepted (ready-tables ready) named other few seat) (none-said r (noLine register seat p) none said)
 
   pub acquired-did : {r : Bool} {holds′ counts′ register′ : List ℕ} {a : Answer} → holds ! p < 1000
       → not r ≡ false → r ≡ not (eqb (heldBy register seat p) 0 & isFull register)
@@ -102,5 +103,5 @@ module _ {n p seat : ℕ} {states links leaders holds counts register : List ℕ
   acquired-did {r} few room said both more is = record {
     exact =
         (λ k. effect (answered (is k)) (storeOf n states links leaders (both .0 k) (both .1 k) (more k)) [])
-        ∙ done-more acquire-adds sits (room-said r (noLine register seat p) room said) (any-acquire (acquired (ready-tables ready) below live other few refl)) refl .exact;
+        ∙ done-more acquire-adds sits (room-said r (noLine register seat p) room said) (any-acquire (acquired (ready-tables ready) named other few refl)) refl .exact;
   }

@@ -9,6 +9,7 @@ ghost use Rattle.rules.specs.declared.Command.the-variants.{Release};
 ghost use Rattle.editing.specs.Verdicts.{Worked};
 ghost use Rattle.editing.specs.Holds.{Releasing};
 ghost use Rattle.holding.specs.Acquired.{Acquiring, Acquired, OneMore};
+use naming::Name;
 use rules::Answer;
 use rules::Refusal;
 use rules::Store;
@@ -42,13 +43,11 @@ pub fn acquire(
     if Store::SEATS <= seat {
         return Answer::Refused(Refusal::Seat);
     }
+    match naming::piece(n, states, p) {
+        Name::Wrong(refusal) => return Answer::Refused(refusal),
+        Name::Right => {}
+    }
     let at = p as usize;
-    if n <= at {
-        return Answer::Refused(Refusal::Number);
-    }
-    if states[at] == Store::FREE {
-        return Answer::Refused(Refusal::Free);
-    }
     if states[at] == Store::DRAFT {
         return Answer::Refused(Refusal::State);
     }
@@ -109,13 +108,11 @@ pub fn release(
     if Store::SEATS <= seat {
         return Answer::Refused(Refusal::Seat);
     }
+    match naming::piece(n, states, p) {
+        Name::Wrong(refusal) => return Answer::Refused(refusal),
+        Name::Right => {}
+    }
     let at = p as usize;
-    if n <= at {
-        return Answer::Refused(Refusal::Number);
-    }
-    if states[at] == Store::FREE {
-        return Answer::Refused(Refusal::Free);
-    }
     if states[at] == Store::DRAFT {
         return Answer::Refused(Refusal::State);
     }

@@ -20,10 +20,10 @@ use Rattle.laws.specs.Sound.{Good, sound→entries, finish-sound}
 use Rattle.laws.specs.Settle.{settled-good}
 use Rattle.rules.specs.Commands.{atLimit, noneFree, tableRefusals, withStates, withLinks, withHolds, oneMore, oneLess, freeAll}
 use Rattle.rules.specs.Commands.{gone, goneList, firstFree, freezeFirst, edit, settles, freedBy, after, nextTables}
-use Rattle.rules.specs.declared.Refusal.the-variants.{Number, Free, State, Limit, Linked, Full}
+use Rattle.rules.specs.declared.Refusal.the-variants.{Number, Place, Target, Free, FreeTarget, State, Limit, Linked, Full}
 use Rattle.rules.specs.declared.Command.{Command}
 use Rattle.rules.specs.declared.Command.the-variants.{New, Set, Freeze, Acquire, Release, Bin, Look}
-use Rattle.laws.specs.Passes.{applies, Passes, not-by, Wells, frozen-of, live, live-draft, live-frozen, not-not, not-or-left, not-or-right, some-not}
+use Rattle.laws.specs.Passes.{applies, Passes, not-by, Wells, frozen-of, live, live-draft, live-frozen, not-not, some-not}
 use Rattle.laws.specs.Edits.New.{new-good, newBase}
 use Rattle.laws.specs.Edits.Set.{set-well, setBase}
 use Rattle.laws.specs.Edits.Hold.{hold-good, hold-well, holdBase}
@@ -82,30 +82,24 @@ module _ (b : Base) (z : SizedBase b) (g : Good b) where
   unfolding edit tableRefusals applies atLimit newBase setBase holdBase oneLess
   edit-well New c = new-good b z g (firstFree b) (first-free b c .below) (first-free-state b c) .wells
   edit-well (Set p k t) c =
-      set-well b z (g .wells) p k t h i (live-draft b p (g .wells p h) fp (not-by c State))
+      set-well b z (g .wells) p k t h i (live-draft b p (g .wells p h) (not-by c Free) (not-by c State))
       (⊎-elim (λ e. inl (eqb→eq t none e)) (λ ne. target ne (ltb→lt t (b .n) (or-skip ne))) (T-dec (eqb t none)))
     where
-      n1 : T (not (not (ltb k 4) or not (eqb t none or ltb t (b .n))))
-      n1 = not-or-right (not (ltb p (b .n))) (not (ltb k 4) or not (eqb t none or ltb t (b .n))) (not-by c Number)
-
       h : p < b .n
-      h = below-of p (not-or-left (not (ltb p (b .n))) (not (ltb k 4) or not (eqb t none or ltb t (b .n))) (not-by c Number))
+      h = below-of p (not-by c Number)
 
       i : k < 4
-      i = ltb→lt k 4 (not-not (ltb k 4) (not-or-left (not (ltb k 4)) (not (eqb t none or ltb t (b .n))) n1))
-
-      fp : T (not (isFree b p))
-      fp = not-or-left (isFree b p) (not (eqb t none) & isFree b t) (not-by c Free)
+      i = ltb→lt k 4 (not-not (ltb k 4) (not-by c Place))
 
       or-skip : T (not (eqb t none)) → T (ltb t (b .n))
       or-skip ne =
           ⊎-elim (λ e. absurd (T-not (eqb t none) ne e)) (λ x. x) (or-cases (eqb t none) (ltb t (b .n))
-          (not-not (eqb t none or ltb t (b .n)) (not-or-right (not (ltb k 4)) (not (eqb t none or ltb t (b .n))) n1)))
+          (not-not (eqb t none or ltb t (b .n)) (not-by c Target)))
 
       target : T (not (eqb t none)) → t < b .n → (t ≡ none) ⊎ Live b t
       target ne m =
           inr (live b t m (g .wells t m) (not-T (isFree b t) (λ f. T-not (not (eqb t none) & isFree b t)
-          (not-or-right (isFree b p) (not (eqb t none) & isFree b t) (not-by c Free)) (and-both (not (eqb t none)) (isFree b t) ne f))))
+          (not-by c FreeTarget) (and-both (not (eqb t none)) (isFree b t) ne f))))
   edit-well (Freeze p seat) c = freeze-good p (below-of p (not-by c Number)) (not-by c Free) (not-by c Limit) .wells
   edit-well (Acquire p seat) c = more-good p (below-of p (not-by c Number)) (live-frozen b p (g .wells p (below-of p (not-by c Number))) (not-by c Free) (not-by c State)) (not-by c Limit) .wells
   edit-well (Release p seat) c =

@@ -11,6 +11,7 @@ pub mod Commands
 pub mod Rows
 pub mod ByTables
 pub mod Verdicts
+pub mod Which
 pub mod Seated
 pub mod Counts
 pub mod Delta

@@ -36,7 +36,8 @@ unfolding firstOf
 first-accepted true r rs e = absurd (let z : _≡_ {A = ℕ} 0 1 = cc e in omega arith)
 first-accepted false r rs e = (tt, e)
 
-passed-all : (rows : List (Bool × Refusal)) → firstOf rows ≡ accepted → Passed (length rows) rows
+-- where none is given, none applies
+pub passed-all : (rows : List (Bool × Refusal)) → firstOf rows ≡ accepted → Passed (length rows) rows
 passed-all [] e = tt
 passed-all (row ∷ rows) e = let x = first-accepted (row .0) (row .1) rows e in (x .0, passed-all rows (x .1))
 

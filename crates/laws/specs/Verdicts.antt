@@ -12,7 +12,7 @@ use Rattle.rules.specs.Commands.{namesSeat, Verdict, accepted, refused, firstOf
 use Rattle.rules.specs.Commands.{edit, settles, freedBy, goneList, noted, nextTables, nextStore}
 use Rattle.rules.specs.Calls.{Reply, Effect, effect, effected, effectOf, refusedBy, acceptedBy, listing, Did}
 use Rattle.rules.specs.declared.Refusal.{Refusal}
-use Rattle.rules.specs.declared.Refusal.the-variants.{Seat, Number, Free, State, Limit, Register, NotHeld, NotYours, Linked, Full}
+use Rattle.rules.specs.declared.Refusal.the-variants.{Seat, Number, Place, Target, Free, FreeTarget, State, Limit, Register, NotHeld, NotYours, Linked, Full}
 use Rattle.rules.specs.declared.Command.{Command}
 use Rattle.rules.specs.declared.Command.the-variants.{New, Set, Freeze, Acquire, Release, Bin, Look}
 use Rattle.laws.specs.Passes.{applies, tableVerdict}
@@ -150,7 +150,7 @@ inOrder (r ∷ rs) rows = (applies r rows, r) ∷ inOrder rs rows
 
 -- the refusals after UNSOUND, in the table's order
 abbrev pub table : List Refusal
-table = Seat ∷ Number ∷ Free ∷ State ∷ Limit ∷ Register ∷ NotHeld ∷ NotYours ∷ Linked ∷ Full ∷ []
+table = Seat ∷ Number ∷ Place ∷ Target ∷ Free ∷ FreeTarget ∷ State ∷ Limit ∷ Register ∷ NotHeld ∷ NotYours ∷ Linked ∷ Full ∷ []
 
 -- the refusals of every command follow the table's order: going down the table gives the same verdict
 pub by-table : (s : Store) (c : Command) → verdict s c ≡ firstOf (inOrder table (refusals s c))

@@ -4,9 +4,8 @@ ghost use Rattle.rules.specs.Tables.{tablesOf};
 ghost use Rattle.rules.specs.Calls.{Ready, saw};
 ghost use Rattle.rules.specs.declared.Command.the-variants.{Look};
 ghost use Rattle.laws.specs.ByTables.{DidTables, tablesEffect};
-use rules::Refusal;
+use naming::Name;
 use rules::Seen;
-use rules::Store;
 
 // State, leader, count of its group, holds of P; for a draft 1, none, 0, 0.
 pub fn look(
@@ -22,14 +21,12 @@ pub fn look(
     ensures { λ r. ⌜ DidTables (Look p) (tablesOf n (now (states .entry)) (now (links .entry)) (now (leaders .entry)) (now (holds .entry)) (now (counts .entry))) []
         (tablesEffect (saw r) (tablesOf n (now (states .entry)) (now (links .entry)) (now (leaders .entry)) (now (holds .entry)) (now (counts .entry))) []) ⌝ }
 {
+    match naming::piece(n, states, p) {
+        Name::Wrong(refusal) => return Seen::Unseen(refusal),
+        Name::Right => {}
+    }
     let q = p as usize;
-    if n <= q {
-        return Seen::Unseen(Refusal::Number);
-    }
     let state = states[q];
-    if state == Store::FREE {
-        return Seen::Unseen(Refusal::Free);
-    }
     let leader = leaders[q];
     let l = leader as usize;
     if n <= l {

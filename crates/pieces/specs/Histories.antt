@@ -12,7 +12,7 @@ use Rattle.rules.specs.Calls.{Call, Areas, numberOf, Reply, answered, saw, chec
 use Rattle.rules.specs.Trace.{Given, lentTrace}
 use Rattle.rules.specs.History.{Event, event, isAccepted, History, refusing, accepting, Listing}
 use Rattle.rules.specs.declared.Refusal.{Refusal}
-use Rattle.rules.specs.declared.Refusal.the-variants.{Size, Unsound, Number, Free, State, Limit, NotHeld, Linked, Full, Long, Room, Seat, NotYours, Register}
+use Rattle.rules.specs.declared.Refusal.the-variants.{Size, Unsound, Number, Free, State, Limit, NotHeld, Linked, Full, Long, Room, Seat, NotYours, Register, Place, Target, FreeTarget}
 use Rattle.rules.specs.declared.Answer.the-variants.{Done, Refused}
 use Rattle.rules.specs.declared.Seen.the-variants.{Piece, Unseen}
 use Rattle.rules.specs.declared.Checked.the-variants.{Yes, No, Unchecked}
@@ -44,6 +44,9 @@ numbered Room e = omega arith
 numbered Seat e = omega arith
 numbered NotYours e = omega arith
 numbered Register e = omega arith
+numbered Place e = omega arith
+numbered Target e = omega arith
+numbered FreeTarget e = omega arith
 
 -- the lowest byte of the number is 0 exactly if the call was accepted
 told-accepted : (r : ℕ) (x : Reply) → Told r x → r % 256 ≡ 0 → T (isAccepted x)

@@ -14,7 +14,7 @@ use Rattle.rules.specs.Words.{Frozen, Well, wfree, wdraft, wfrozen}
 use Rattle.rules.specs.Commands.{firstFree}
 use Rattle.rules.specs.Calls.{numberOf, Ready}
 use Rattle.rules.specs.declared.Refusal.{Refusal}
-use Rattle.rules.specs.declared.Refusal.the-variants.{Size, Unsound, Number, Free, State, Limit, NotHeld, Linked, Full, Long, Room, Seat, NotYours, Register}
+use Rattle.rules.specs.declared.Refusal.the-variants.{Size, Unsound, Number, Free, State, Limit, NotHeld, Linked, Full, Long, Room, Seat, NotYours, Register, Place, Target, FreeTarget}
 use Rattle.laws.specs.Below.{T-dec}
 use Rattle.laws.specs.Words.{isFrozen→, leaderOf-is}
 use Rattle.laws.specs.Sound.{leaderEntry-frozen, leaderEntry-other, sound→entries}
@@ -37,6 +37,9 @@ number-fits Room = omega arith
 number-fits Seat = omega arith
 number-fits NotYours = omega arith
 number-fits Register = omega arith
+number-fits Place = omega arith
+number-fits Target = omega arith
+number-fits FreeTarget = omega arith
 
 -- the lowest with f, or none
 lowest-fits : (p : ℕ) (f : ℕ → Bool) (k : ℕ) → p ≤ none → k ≤ none → p + k ≤ none → lowestFrom p f k ≤ none

@@ -11,7 +11,7 @@ use Rattle.rules.specs.Tables.{Base, Tables, Store, state, holdsOf, isSo
 use Rattle.rules.specs.Words.{Sized, SizedStore, Sound, SoundStore}
 use Rattle.rules.specs.Commands.{isLook, pieceOf, Verdict, accepted, refused, firstOf, refusals, verdict, freedBy, valueOf, nextStore}
 use Rattle.rules.specs.declared.Refusal.{Refusal}
-use Rattle.rules.specs.declared.Refusal.the-variants.{Size, Unsound, Number, Free, State, Limit, NotHeld, Linked, Full, Long, Room, Seat, NotYours, Register}
+use Rattle.rules.specs.declared.Refusal.the-variants.{Size, Unsound, Number, Free, State, Limit, NotHeld, Linked, Full, Long, Room, Seat, NotYours, Register, Place, Target, FreeTarget}
 use Rattle.rules.specs.declared.Command.{Command}
 use Rattle.rules.specs.declared.Answer.{Answer}
 use Rattle.rules.specs.declared.Answer.the-variants.{Done, Refused}
@@ -51,6 +51,9 @@ numberOf Room = 11
 numberOf Seat = 12
 numberOf NotYours = 13
 numberOf Register = 14
+numberOf Place = 15
+numberOf Target = 16
+numberOf FreeTarget = 17
 
 pub record Values : Type 0 where
   pub refusal : ℕ

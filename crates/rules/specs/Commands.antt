@@ -10,7 +10,7 @@ use Rattle.rules.specs.Below.{every, any, table, lowest, list}
 use Rattle.rules.specs.Register.{heldBy, isFull, oneMoreBy, oneLessBy}
 use Rattle.rules.specs.Tables.{Base, Tables, Store, baseOf, storeOn, state, isFree, isDraft, isFrozen, linkAt, holdsOf, reaches, isKept, finish}
 use Rattle.rules.specs.declared.Refusal.{Refusal}
-use Rattle.rules.specs.declared.Refusal.the-variants.{Seat, Number, Free, State, Limit, Register, NotHeld, NotYours, Linked, Full}
+use Rattle.rules.specs.declared.Refusal.the-variants.{Seat, Number, Place, Target, Free, FreeTarget, State, Limit, Register, NotHeld, NotYours, Linked, Full}
 use Rattle.rules.specs.declared.Command.{Command}
 use Rattle.rules.specs.declared.Command.the-variants.{New, Set, Freeze, Acquire, Release, Bin, Look}
 
@@ -83,17 +83,19 @@ namesSeat c = isFreeze c or isAcquire c or isRelease c
 -- ---- what is refused by what the tables hold
 
 module _ (b : Base) where
-  -- 3 NUMBER: P is N or more, K above 3, or T neither none nor below N
+  -- 3 NUMBER: P is N or more
   abbrev pub noPiece : ℕ → Bool
   noPiece p = not (ltb p (b .n))
 
+  -- 15 PLACE: K is above 3
   abbrev pub noPlace : ℕ → Bool
   noPlace k = not (ltb k 4)
 
+  -- 16 TARGET: T is neither none nor below N
   abbrev pub noTarget : ℕ → Bool
   noTarget t = not (eqb t none or ltb t (b .n))
 
-  -- 4 FREE: P or T is a free number
+  -- 17 FREETARGET: T is a free number, as P is for 4 FREE
   abbrev pub freeTarget : ℕ → Bool
   freeTarget t = not (eqb t none) & isFree b t
 
@@ -113,10 +115,11 @@ module _ (b : Base) where
   unfoldable pub noneFree : Bool
   noneFree = every (λ p. not (isFree b p)) (b .n)
 
-  -- the refusals of each command on sound tables, checked in this order; 5 STATE: set or bin of a frozen piece, acquire or release of a draft
+  -- the refusals of each command on sound tables, checked in this order; 4 FREE: P is a free number; 5 STATE: set or bin of a frozen piece, acquire or release of a draft
   unfoldable pub tableRefusals : Command → List (Bool × Refusal)
   tableRefusals New = (noneFree, Full) ∷ []
-  tableRefusals (Set p k t) = (noPiece p or noPlace k or noTarget t, Number) ∷ (isFree b p or freeTarget t, Free) ∷ (isFrozen b p, State) ∷ []
+  tableRefusals (Set p k t) =
+      (noPiece p, Number) ∷ (noPlace k, Place) ∷ (noTarget t, Target) ∷ (isFree b p, Free) ∷ (freeTarget t, FreeTarget) ∷ (isFrozen b p, State) ∷ []
   tableRefusals (Freeze p i) = (noPiece p, Number) ∷ (isFree b p, Free) ∷ (atLimit p, Limit) ∷ []
   tableRefusals (Acquire p i) = (noPiece p, Number) ∷ (isFree b p, Free) ∷ (isDraft b p, State) ∷ (atLimit p, Limit) ∷ []
   tableRefusals (Release p i) = (noPiece p, Number) ∷ (isFree b p, Free) ∷ (isDraft b p, State) ∷ (notHeld p, NotHeld) ∷ []

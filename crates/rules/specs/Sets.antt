@@ -12,7 +12,7 @@ use Rattle.rules.specs.Commands.{Verdict, accepted, refused, verdict, fr
 use Rattle.rules.specs.Calls.{numberOf, seenAt}
 use Rattle.rules.specs.Computing.{computing}
 use Rattle.rules.specs.declared.Refusal.{Refusal}
-use Rattle.rules.specs.declared.Refusal.the-variants.{Seat, Number, Limit, NotHeld, NotYours, Linked, Full}
+use Rattle.rules.specs.declared.Refusal.the-variants.{Seat, Number, Place, Target, Free, FreeTarget, State, Limit, NotHeld, NotYours, Linked, Full}
 use Rattle.rules.specs.declared.Command.{Command}
 use Rattle.rules.specs.declared.Command.the-variants.{New, Set, Freeze, Acquire, Release, Bin}
 use Rattle.rules.specs.declared.Seen.{Seen}
@@ -108,13 +108,16 @@ sets =
     ∷ row 4 (gives 0 ∷ ok (Set 0 0 0) ∷ ok (Bin 0) ∷ gives 0 ∷ gives 1 ∷ ok (Set 0 0 1) ∷ no (Bin 1) Linked ∷ [])
     -- 13. N = 1, second new: 9.
     ∷ row 1 (gives 0 ∷ no New Full ∷ [])
-    -- 14. N = 4: number 3 may be named, 4 gives 3; link place 3 is right, 4 gives 3.
-    ∷ row 4 (gives 0 ∷ gives 1 ∷ gives 2 ∷ gives 3 ∷ ok (Freeze 3 0) ∷ no (Freeze 4 0) Number ∷ ok (Set 0 3 3) ∷ no (Set 0 4 3) Number ∷ no (Set 0 3 4) Number ∷ [])
+    -- 14. N = 4: number 3 may be named, 4 gives 3; link place 3 is right, 4 gives 15; target 3 is right, 4 gives 16.
+    ∷ row 4 (gives 0 ∷ gives 1 ∷ gives 2 ∷ gives 3 ∷ ok (Freeze 3 0) ∷ no (Freeze 4 0) Number ∷ ok (Set 0 3 3) ∷ no (Set 0 4 3) Place ∷ no (Set 0 3 4) Target ∷ [])
     -- By seat: 3 and 5 hold piece 0; each releases its own, another's release gives 13, and the last hold's frees it.
     ∷ row 4 (gives 0 ∷ ok (Freeze 0 3) ∷ no (Release 0 5) NotYours ∷ ok (Acquire 0 5) ∷ sees 0 2 0 2 2 ∷ ok (Release 0 3) ∷ no (Release 0 3) NotYours
     ∷ frees (Release 0 5) (0 ∷ []) ∷ [])
     -- Seat 31 is right, 32 gives 12, before a wrong number's 3; a piece without holds gives 7, whoever asks.
     ∷ row 4 (gives 0 ∷ gives 1 ∷ ok (Set 0 0 1) ∷ ok (Freeze 0 31) ∷ no (Freeze 0 32) Seat ∷ no (Acquire 9 32) Seat ∷ no (Acquire 9 31) Number ∷ no (Release 1 31) NotHeld ∷ [])
+    -- Of several wrong numbers the first in the table is told: piece, place, target, free piece, free target, then the state.
+    ∷ row 4 (gives 0 ∷ gives 1 ∷ ok (Freeze 1 0) ∷ no (Set 4 4 4) Number ∷ no (Set 2 4 4) Place ∷ no (Set 2 0 4) Target ∷ no (Set 2 0 3) Free ∷ no (Set 1 0 3) FreeTarget
+    ∷ no (Set 1 0 none) State ∷ no (Set 0 0 3) FreeTarget ∷ ok (Set 0 0 none) ∷ [])
     ∷ []
 
 -- all that the sets compute with besides the rules

@@ -55,10 +55,16 @@ pub enum Refusal {
     Unsound,
     // The seat is above 31.
     Seat,
-    // P is N or more, K above 3, or T neither none nor below N.
+    // P is N or more.
     Number,
-    // P or T is a free number.
+    // K is above 3.
+    Place,
+    // T is neither none nor below N.
+    Target,
+    // P is a free number.
     Free,
+    // T is a free number.
+    FreeTarget,
     // Set or bin of a frozen piece; acquire or release of a draft.
     State,
     // Acquire or freeze of a frozen piece with 1,000 holds.
@@ -88,7 +94,10 @@ pub fn refusal_number(refusal: Refusal) -> u32
         Refusal::Unsound => 2,
         Refusal::Seat => 12,
         Refusal::Number => 3,
+        Refusal::Place => 15,
+        Refusal::Target => 16,
         Refusal::Free => 4,
+        Refusal::FreeTarget => 17,
         Refusal::State => 5,
         Refusal::Limit => 6,
         Refusal::Register => 14,

@@ -1,58 +1,16 @@
 // Set on sound tables: draft P's link K becomes T.
-ghost use mathlib.Core.Path.{_≡_};
-ghost use mathlib.Core.Logic.{_⊎_};
-ghost use Prim.Native.Nat.{_≤_, _<_};
+ghost use Prim.Native.Nat.{_≤_};
 ghost use lib.ListN.{length};
 ghost use Rattle.rules.specs.Tables.{tablesOf};
-ghost use Rattle.rules.specs.Limits.{none};
 ghost use Rattle.rules.specs.Calls.{answered, Ready};
 ghost use Rattle.rules.specs.declared.Command.the-variants.{Set};
 ghost use Rattle.laws.specs.ByTables.{DidTables, tablesEffect};
 ghost use Rattle.editing.specs.Verdicts.{Worked};
-ghost use Rattle.editing.specs.Targets.{misnames, frees};
 ghost use Rattle.editing.specs.Set.{Setting};
+use naming::Name;
 use rules::Answer;
 use rules::Refusal;
 use rules::Store;
-
-// Whether P is N or more, K above 3, or T neither none nor below N.
-fn wrong_number(n: usize, p: u16, k: u16, t: u16) -> bool
-    ensures { λ r. ⌜ r ≡ misnames n p k t ⌝ }
-{
-    let at = p as usize;
-    if n <= at {
-        return true;
-    }
-    if 4 <= k {
-        return true;
-    }
-    if t == Store::NONE {
-        return false;
-    }
-    let to = t as usize;
-    if n <= to {
-        return true;
-    }
-    false
-}
-
-// Whether P or T is a free number.
-fn names_free(states: &[u8], p: usize, t: u16) -> bool
-    requires { ⌜ (p < length (now states)) × ((t ≡ none) ⊎ (t < length (now states))) ⌝ }
-    ensures { λ r. ⌜ r ≡ frees (now (states .entry)) p t ⌝ }
-{
-    if states[p] == Store::FREE {
-        return true;
-    }
-    if t == Store::NONE {
-        return false;
-    }
-    let to = t as usize;
-    if states[to] == Store::FREE {
-        return true;
-    }
-    false
-}
 
 // Draft p's link k becomes t; then every frozen piece no longer kept becomes free. Gives how many.
 fn set_place(
@@ -95,13 +53,11 @@ pub fn set_link(
         (tablesOf n (now (states .entry)) (now (links .entry)) (now (leaders .entry)) (now (holds .entry)) (now (counts .entry))) (now (list .entry))
         (tablesEffect (answered r) (tablesOf n (now (states .exit)) (now (links .exit)) (now (leaders .exit)) (now (holds .entry)) (now (counts .exit))) (now (list .exit))) ⌝ }
 {
-    if wrong_number(n, p, k, t) {
-        return Answer::Refused(Refusal::Number);
+    match naming::link(n, states, p, k, t) {
+        Name::Wrong(refusal) => return Answer::Refused(refusal),
+        Name::Right => {}
     }
     let at = p as usize;
-    if names_free(states, at, t) {
-        return Answer::Refused(Refusal::Free);
-    }
     if states[at] == Store::FROZEN {
         return Answer::Refused(Refusal::State);
     }

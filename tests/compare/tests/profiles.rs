@@ -35,6 +35,16 @@ fn every_refusal_that_a_trace_can_give_is_given() {
 }
 
 #[test]
+fn each_number_of_a_set_is_wrong() {
+    let figures = figures("wrong numbers");
+    assert!(
+        [3, 15, 16, 4, 17, 5].iter().all(|&refusal| figures.refused[refusal] > 50),
+        "{figures}"
+    );
+    assert!(figures.bad == 0 && figures.lines > 8_000, "{figures}");
+}
+
+#[test]
 fn whole_tables_are_let_go_and_filled() {
     assert_eq!(figures("chains of 1,024 let go at once").most, 1_024);
     let full = figures("full tables, numbers used again");

@@ -11,7 +11,7 @@ use std::io::{self, Read};
 pub const YES: u64 = 1 << 16;
 
 /// The refusals, in the rulebook's order.
-const REFUSALS: [usize; 14] = [1, 2, 12, 3, 4, 5, 6, 14, 7, 13, 8, 9, 10, 11];
+const REFUSALS: [usize; 17] = [1, 2, 12, 3, 15, 16, 4, 17, 5, 6, 14, 7, 13, 8, 9, 10, 11];
 
 /// What has been compared so far under one heading.
 pub struct Judge<'a> {
@@ -21,7 +21,7 @@ pub struct Judge<'a> {
     pub tables: usize,
     pub calls: usize,
     /// Calls by their refusal number, 0 for accepted.
-    pub refused: [usize; 15],
+    pub refused: [usize; 18],
 }
 
 /// The first entry of an area that differs, in words.
@@ -74,7 +74,7 @@ fn difference(
 
 impl<'a> Judge<'a> {
     pub fn new(door: &'a mut Door) -> Judge<'a> {
-        Judge { door, name: "", tables: 0, calls: 0, refused: [0; 15] }
+        Judge { door, name: "", tables: 0, calls: 0, refused: [0; 18] }
     }
 
     /// Makes the call on the tables, by the door later; an account of a difference found so far.

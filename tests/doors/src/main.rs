@@ -29,6 +29,7 @@ type Phase = (&'static str, usize, fn(&mut Random, &mut Judge) -> Result<(), Str
 
 const PHASES: &[Phase] = &[
     ("calls one after the other", 10, sequences::sequences),
+    ("sets with wrong numbers", 5, sequences::sets),
     ("holds up to the limit", 1, sequences::limit),
     ("a register that is full", 3, sequences::register),
     ("calls on large stores", 1, sequences::large),

@@ -6,7 +6,7 @@ use crate::judge::{Judge, YES};
 use crate::near::near_misses;
 use crate::stores::{chain, empty, filled, soil, sound};
 use compare::random::Random;
-use independent::tables::LINES;
+use independent::tables::{DRAFT, FREE, FROZEN, LINES, NONE};
 
 /// Calls one after the other from an empty store, refused ones included.
 pub fn sequences(random: &mut Random, judge: &mut Judge) -> Result<(), String> {
@@ -17,6 +17,24 @@ pub fn sequences(random: &mut Random, judge: &mut Judge) -> Result<(), String> {
         for _ in 0..100 {
             soil(random, &mut tables);
             judge.call(&mut tables, any_call(random, n))?;
+        }
+    }
+    Ok(())
+}
+
+/// Sets on stores with a draft, a frozen piece and a free number: every piece, place and target that
+/// is right or nearly.
+pub fn sets(random: &mut Random, judge: &mut Judge) -> Result<(), String> {
+    for n in [3, 4, 7] {
+        let mut tables = sound(random, n);
+        while [FREE, DRAFT, FROZEN].iter().any(|state| !tables.states.contains(state)) {
+            tables = sound(random, n);
+        }
+        let last = n as u16 - 1;
+        for p in (0..=last + 1).chain([NONE]) {
+            for t in (0..=last + 2).chain([1_024, 65_534, NONE]) {
+                judge.each(&tables, &[0, 3, 4, NONE].map(|k| Call::Set(p, k, t)))?;
+            }
         }
     }
     Ok(())

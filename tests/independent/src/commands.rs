@@ -68,14 +68,19 @@ impl Pieces {
 
     /// Draft P's link K becomes T.
     pub fn set(&mut self, p: u16, k: u16, t: u16) -> Result<Accepted, Refusal> {
-        let n = self.n();
-        let named = |q: u16| usize::from(q) < n;
-        if !named(p) || usize::from(k) >= LINKS || !(t == NONE || named(t)) {
+        let target = (t != NONE).then_some(usize::from(t));
+        if usize::from(p) >= self.n() {
             return Err(Refusal::Number);
         }
+        if usize::from(k) >= LINKS {
+            return Err(Refusal::Place);
+        }
+        if target.map_or(false, |t| t >= self.n()) {
+            return Err(Refusal::Target);
+        }
         self.live(p)?;
-        if t != NONE {
-            self.live(t)?;
+        if target.map_or(false, |t| self.states[t] == FREE) {
+            return Err(Refusal::FreeTarget);
         }
         let p = self.live_in(DRAFT, p)?;
         self.links[p][usize::from(k)] = t;

@@ -66,10 +66,10 @@ const SETS: &[Set] = &[
     ]),
     // N = 1, second new: 9.
     Set("13", 1, &[NEW_0, ("n", "9 - 0")]),
-    // N = 4: number 3 may be named, 4 gives 3; link place 3 is right, 4 gives 3.
+    // N = 4: number 3 may be named, 4 gives 3, as a target 16; link place 3 is right, 4 gives 15.
     Set("14", 4, &[
-        NEW_0, NEW_1, NEW_2, NEW_3, ("s 0 0 3", DONE), ("s 0 0 4", "3 - 0"),
-        ("s 3 3 0", DONE), ("s 3 4 0", "3 - 0"), ("l 3", "0 1 - 0 0"), ("l 4", "3 - 0"),
+        NEW_0, NEW_1, NEW_2, NEW_3, ("s 0 0 3", DONE), ("s 0 0 4", "16 - 0"),
+        ("s 3 3 0", DONE), ("s 3 4 0", "15 - 0"), ("l 3", "0 1 - 0 0"), ("l 4", "3 - 0"),
     ]),
 ];
 

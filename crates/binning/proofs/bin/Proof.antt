@@ -3,97 +3,91 @@
 use native.Mathlib.Omega.{arith}
 use mathlib.Core.Path.{sym, _∙_}
 use borrow.Author.Needs.{needs}
-use Rattle.editing.specs.Names.{bin-names, number-refused, free-refused, state-refused}
+use Rattle.rules.specs.Calls.{refusedBy}
+use Rattle.naming.specs.Told.{piece-wrong, piece-named}
+use Rattle.naming.specs.Names.{wrong-did}
+use Rattle.editing.specs.Names.{bin-names, state-refused}
 use Rattle.editing.specs.Bin.{bin-linked}
 use Rattle.binning.proofs.bin.Statement.{statement}
 use Rattle.binning.proofs.bin.Tie as tie
 
-returns : tie.Need-returns
-returns c = number-refused bin-names (c .if1 .taken)
+piece-requires : tie.Need-piece-requires
+piece-requires c κs = let lent : tie.Start = search in lent .pre .0 .sized .base .states
 
-slice-read-if2 : tie.Need-slice-read-if2
-slice-read-if2 c = search needs
+returns : tie.Need-returns
+unfolding refusedBy
+returns c = let asked : tie.After-piece = search in wrong-did (bin-names .first) (piece-wrong (asked .piece .ensures) (c .before .refusal .given .1))
+
+slice-read-if1 : tie.Need-slice-read-if1
+slice-read-if1 c =
+    let lent : tie.Start = search in
+    let asked : tie.After-piece = search in
+    let right : tie.After-enum-told = search in
+    omega (arith, piece-named (asked .piece .ensures) (right .enum-told .given .1) .below, lent .pre .0 .sized .base .states)
 
 returns-2 : tie.Need-returns-2
-returns-2 c = free-refused bin-names (c .before .before .if1 .left) (c .if2 .taken)
-
-slice-read-if3 : tie.Need-slice-read-if3
-slice-read-if3 c = search needs
-
-returns-3 : tie.Need-returns-3
-returns-3 c = state-refused bin-names (c .before .before .before .before .if1 .left) (c .before .before .if2 .left) (c .if3 .taken)
+unfolding refusedBy
+returns-2 c =
+    let asked : tie.After-piece = search in
+    let right : tie.After-enum-told = search in
+    state-refused bin-names (piece-named (asked .piece .ensures) (right .enum-told .given .1) .right) (c .if1 .taken)
 
 is-linked-requires : tie.Need-is-linked-requires
 is-linked-requires c κs =
-    let below = c .before .before .before .before .before in
-    let begun = below .before .before .before .before .before .before .before in
-    (begun .pre .0 .sized .base .links, begun .pre .0 .sized .base .most, below .if1 .left)
+    let lent : tie.Start = search in
+    let asked : tie.After-piece = search in
+    let right : tie.After-enum-told = search in
+    (lent .pre .0 .sized .base .links, lent .pre .0 .sized .base .most, piece-named (asked .piece .ensures) (right .enum-told .given .1) .below)
 
-same-length : tie.Need-same-length
-same-length c = search needs
-
-returns-4 : tie.Need-returns-4
-returns-4 c =
-    let draft = c .before .before .before in
-    let live = draft .before .before in
-    let below = live .before .before in
-    bin-linked (below .if1 .left) (live .if2 .left) (draft .if3 .left) (sym (c .if4 .taken) ∙ c .before .is-linked .ensures)
+returns-3 : tie.Need-returns-3
+returns-3 c =
+    let asked : tie.After-piece = search in
+    let right : tie.After-enum-told = search in
+    let draft : tie.Else1 = search in
+    bin-linked (piece-named (asked .piece .ensures) (right .enum-told .given .1)) (draft .if1 .left) (sym (c .if2 .taken) ∙ c .before .is-linked .ensures)
 
 bin-draft-requires : tie.Need-bin-draft-requires
 bin-draft-requires c κs =
-    let alone = c .before .before .before .before .before in
-    let asked = alone .before in
-    let draft = asked .before .before in
-    let live = draft .before .before in
-    let below = live .before .before in
-    let begun = below .before .before .before .before .before .before .before in
+    let lent : tie.Start = search in
+    let asked : tie.After-piece = search in
+    let right : tie.After-enum-told = search in
+    let draft : tie.Else1 = search in
+    let alone : tie.Else2 = search in
     record {
-      ready = begun .pre .0;
-      room = begun .pre .1;
-      below = below .if1 .left;
-      live = live .if2 .left;
-      other = draft .if3 .left;
-      alone = sym (alone .if4 .left) ∙ asked .is-linked .ensures;
+      ready = lent .pre .0;
+      room = lent .pre .1;
+      named = piece-named (asked .piece .ensures) (right .enum-told .given .1);
+      other = draft .if1 .left;
+      alone = sym (alone .if2 .left) ∙ alone .before .is-linked .ensures;
     }
 
 cast-freed : tie.Need-cast-freed
-cast-freed c = omega (arith, c .before .before .before .before .before .before .before .before .before .before .bin-draft .ensures .few)
+cast-freed c = let done : tie.After-bin-draft = search in omega (arith, done .bin-draft .ensures .few)
 
-same-length-2 : tie.Need-same-length-2
-same-length-2 c = c .before .before .before .before .before .before .before .before .before .before .bin-draft .kept .1 .0
-
-same-length-3 : tie.Need-same-length-3
-same-length-3 c = c .before .before .before .before .before .before .before .before .before .before .bin-draft .kept .1 .1 .0
-
-same-length-4 : tie.Need-same-length-4
-same-length-4 c = c .before .before .before .before .before .before .before .before .before .before .bin-draft .kept .1 .1 .1 .0
-
-same-length-5 : tie.Need-same-length-5
-same-length-5 c = c .before .before .before .before .before .before .before .before .before .before .bin-draft .kept .1 .1 .1 .1 .1 .0
-
-same-length-6 : tie.Need-same-length-6
-same-length-6 c = c .before .before .before .before .before .before .before .before .before .before .bin-draft .kept .1 .1 .1 .1 .1 .1 .0
-
-returns-5 : tie.Need-returns-5
-returns-5 c = c .before .before .before .before .before .before .before .before .before .before .bin-draft .ensures .did
+returns-4 : tie.Need-returns-4
+returns-4 c = let done : tie.After-bin-draft = search in done .bin-draft .ensures .did
 
 pub bin-spec : {M : Type 1} → statement M
 bin-spec =
     tie.close
     (tie.spec
+    piece-requires
+    (λ c. c .match .keys1)
+    (λ c. search needs)
     returns
-    slice-read-if2
+    (λ c. c .match .keys2)
+    slice-read-if1
+    (λ c. search needs)
     returns-2
-    slice-read-if3
-    returns-3
     is-linked-requires
-    same-length
-    returns-4
+    (λ c. search needs)
+    (λ c. search needs)
+    returns-3
     bin-draft-requires
     cast-freed
-    same-length-2
-    same-length-3
-    same-length-4
-    same-length-5
-    same-length-6
-    returns-5)
+    (λ c. search needs)
+    (λ c. search needs)
+    (λ c. search needs)
+    (λ c. search needs)
+    (λ c. search needs)
+    returns-4)

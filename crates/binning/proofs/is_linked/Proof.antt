@@ -5,8 +5,8 @@ use borrow.Author.Needs.{needs}
 use Rattle.binning.proofs.is_linked.Statement.{statement}
 use Rattle.binning.proofs.is_linked.Tie as tie
 
-naming-requires : tie.Need-naming-requires
-naming-requires c κs = search needs
+namings-requires : tie.Need-namings-requires
+namings-requires c κs = search needs
 
 mul-start : tie.Need-mul-start
 mul-start c = search needs
@@ -14,46 +14,46 @@ mul-start c = search needs
 add-end : tie.Need-add-end
 add-end c = search needs
 
-mul-naming : tie.Need-mul-naming
-mul-naming c = search needs
+mul-namings : tie.Need-mul-namings
+mul-namings c = search needs
 
-sub-naming : tie.Need-sub-naming
-sub-naming c = search needs
+sub-namings : tie.Need-sub-namings
+sub-namings c = search needs
 
-part-naming-start : tie.Need-part-naming-start
-part-naming-start c = search needs
+part-namings-start : tie.Need-part-namings-start
+part-namings-start c = search needs
 
-part-naming-end : tie.Need-part-naming-end
-part-naming-end c = search needs
+part-namings-end : tie.Need-part-namings-end
+part-namings-end c = search needs
 
-naming-requires-2 : tie.Need-naming-requires-2
-naming-requires-2 c κs = search needs
+namings-requires-2 : tie.Need-namings-requires-2
+namings-requires-2 c κs = search needs
 
 returns : tie.Need-returns
 returns c =
     let own = c .before in
     let all = own .before .before in
     let begun = all .before .before in
-    more-than-own _ (begun .pre .0) (begun .pre .2) (all .naming .ensures) (own .naming2 .ensures) (c .if1 .taken)
+    more-than-own _ (begun .pre .0) (begun .pre .2) (all .namings .ensures) (own .namings2 .ensures) (c .if1 .taken)
 
 returns-2 : tie.Need-returns-2
 returns-2 c =
     let own = c .before in
     let all = own .before .before in
     let begun = all .before .before in
-    no-more-than-own _ (begun .pre .0) (begun .pre .2) (all .naming .ensures) (own .naming2 .ensures) (c .if1 .left)
+    no-more-than-own _ (begun .pre .0) (begun .pre .2) (all .namings .ensures) (own .namings2 .ensures) (c .if1 .left)
 
 pub is-linked-spec : {M : Type 1} → statement M
 is-linked-spec =
     tie.close
     (tie.spec
-    naming-requires
+    namings-requires
     mul-start
     add-end
-    mul-naming
-    sub-naming
-    part-naming-start
-    part-naming-end
-    naming-requires-2
+    mul-namings
+    sub-namings
+    part-namings-start
+    part-namings-end
+    namings-requires-2
     returns
     returns-2)

@@ -44,6 +44,15 @@ enum-told-13 c = c .match .keys13
 enum-told-14 : tie.Need-enum-told-14
 enum-told-14 c = c .match .keys14
 
+enum-told-15 : tie.Need-enum-told-15
+enum-told-15 c = c .match .keys15
+
+enum-told-16 : tie.Need-enum-told-16
+enum-told-16 c = c .match .keys16
+
+enum-told-17 : tie.Need-enum-told-17
+enum-told-17 c = c .match .keys17
+
 returns : tie.Need-returns
 returns c = rw (c .enum-told .given .1)
 
@@ -86,6 +95,15 @@ returns-13 c = rw (c .enum-told13 .given .1)
 returns-14 : tie.Need-returns-14
 returns-14 c = rw (c .enum-told14 .given .1)
 
+returns-15 : tie.Need-returns-15
+returns-15 c = rw (c .enum-told15 .given .1)
+
+returns-16 : tie.Need-returns-16
+returns-16 c = rw (c .enum-told16 .given .1)
+
+returns-17 : tie.Need-returns-17
+returns-17 c = rw (c .enum-told17 .given .1)
+
 pub refusal-number-spec : {M : Type 1} → statement M
 refusal-number-spec =
     tie.close
@@ -104,6 +122,9 @@ refusal-number-spec =
     enum-told-12
     enum-told-13
     enum-told-14
+    enum-told-15
+    enum-told-16
+    enum-told-17
     returns
     returns-2
     returns-3
@@ -117,4 +138,7 @@ refusal-number-spec =
     returns-11
     returns-12
     returns-13
-    returns-14)
+    returns-14
+    returns-15
+    returns-16
+    returns-17)

@@ -1,13 +1,13 @@
-//! Stored traces: writes one of each profile with the independent program's output beside it, or
-//! checks that every stored output is what the independent program gives.
+//! Stored traces: writes one of each profile with the independent program's output beside it, writes
+//! the outputs of those that are there, or checks that every stored output is what that program gives.
 
 use compare::profiles::{trace, PROFILES};
 use std::fs;
 use std::io::{Error, Result};
-use std::path::Path;
+use std::path::{Path, PathBuf};
 use std::process::ExitCode;
 
-const USAGE: &str = "usage: stored write FOLDER | stored check FOLDER
+const USAGE: &str = "usage: stored write FOLDER | stored answer FOLDER | stored check FOLDER
   NAME.trace in FOLDER has its output in NAME.output.";
 
 /// The longest trace or output that is stored.
@@ -32,29 +32,40 @@ fn write(folder: &Path) -> Result<usize> {
     Ok(written)
 }
 
-/// How many stored outputs are right; an error names the first that is not.
-fn check(folder: &Path) -> Result<usize> {
-    let mut right = 0;
+/// Does something with every stored trace, by its file and its output; gives how many there are.
+fn each(folder: &Path, act: impl Fn(PathBuf, Vec<u8>) -> Result<()>) -> Result<usize> {
+    let mut many = 0;
     for entry in fs::read_dir(folder)? {
         let stored = entry?.path();
         if stored.extension().map_or(false, |kind| kind == "trace") {
-            let output = fs::read(stored.with_extension("output"))?;
-            if independent::trace::run(&fs::read(&stored)?) != output {
-                return Err(Error::other(format!(
-                    "{}: another output is stored",
-                    stored.display()
-                )));
-            }
-            right += 1;
+            let output = independent::trace::run(&fs::read(&stored)?);
+            act(stored, output)?;
+            many += 1;
         }
     }
-    Ok(right)
+    Ok(many)
+}
+
+/// Writes the output of every stored trace.
+fn answer(folder: &Path) -> Result<usize> {
+    each(folder, |stored, output| fs::write(stored.with_extension("output"), output))
+}
+
+/// How many stored outputs are right; an error names the first that is not.
+fn check(folder: &Path) -> Result<usize> {
+    each(folder, |stored, output| match fs::read(stored.with_extension("output"))? == output {
+        true => Ok(()),
+        false => Err(Error::other(format!("{}: another output is stored", stored.display()))),
+    })
 }
 
 fn main() -> ExitCode {
     let words: Vec<String> = std::env::args().skip(1).collect();
     let done = match words.iter().map(String::as_str).collect::<Vec<_>>()[..] {
         ["write", folder] => write(Path::new(folder)).map(|many| println!("{many} traces written")),
+        ["answer", folder] => {
+            answer(Path::new(folder)).map(|many| println!("{many} outputs written"))
+        }
         ["check", folder] => {
             check(Path::new(folder)).map(|many| println!("{many} stored traces have their outputs"))
         }

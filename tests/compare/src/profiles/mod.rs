@@ -39,6 +39,7 @@ pub const PROFILES: &[Profile] = &[
     Profile { name: "nested groups", traces: 1, write: loops::nested },
     Profile { name: "chains of 1,024 let go at once", traces: 1, write: chains::long_chain },
     Profile { name: "every refusal", traces: 1, write: refusals::refusals },
+    Profile { name: "wrong numbers", traces: 1, write: refusals::wrong_numbers },
     Profile { name: "holds up to 1,000", traces: 1, write: refusals::holds },
     Profile { name: "links set again", traces: 1, write: keepers::set_again },
     Profile { name: "drafts outside a freeze", traces: 1, write: keepers::drafts_outside },

@@ -1,4 +1,4 @@
-//! Profiles of refusals and of holds up to their limit.
+//! Profiles of refusals, of wrong numbers, and of holds up to their limit.
 
 use super::seats::any_seat;
 use super::shapes::{drafts, freeze_and_look, let_go, ring};
@@ -22,18 +22,28 @@ fn any(author: &mut Author) -> u16 {
     }
 }
 
+/// A set whose piece, place and target may each be wrong: too high, none, or free.
+fn wrong_set(author: &mut Author) {
+    let p = if author.random.once_in(2) { author.one_draft().unwrap_or(0) } else { any(author) };
+    let k = match author.random.below(3) {
+        0 => author.random.pick(&[4, 5, 7, 8, 255, 256, 1_024, 65_535]),
+        _ => author.place(),
+    };
+    let t = if author.random.once_in(4) { NONE } else { any(author) };
+    author.set(p, k, t);
+}
+
 /// A command on any numbers, so that several refusals may apply at once.
 fn any_command(author: &mut Author) {
-    let (p, t) = (any(author), any(author));
-    let k = author.random.pick(&[0, 1, 2, 3, 3, 4, 5, 65_535]);
-    match author.random.below(6) {
+    let p = any(author);
+    match author.random.below(8) {
         0..=2 => {
             let (command, seat) = (author.random.pick(&['f', 'a', 'r']), any_seat(author));
             author.by(command, p, seat);
         }
         3 => author.bin(p),
         4 => author.look(p),
-        _ => author.set(p, k, t),
+        _ => wrong_set(author),
     }
 }
 
@@ -65,6 +75,19 @@ pub fn refusals(author: &mut Author) {
         author.make();
         any_command(author);
     }
+}
+
+/// Sets of which piece, place and target are right or wrong, alone and several at once, in a store
+/// of a few pieces and at last in a full one.
+pub fn wrong_numbers(author: &mut Author) {
+    while author.lines < 1_200 {
+        step(author, 8);
+        wrong_set(author);
+    }
+    while author.live() < CAPACITY {
+        author.make();
+    }
+    (0..100).for_each(|_| wrong_set(author));
 }
 
 /// Holds up to 1,000 and past it on members of one group, by acquire and by freeze.

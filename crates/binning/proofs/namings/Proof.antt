@@ -1,12 +1,12 @@
--- `binning::naming` meets its contract. The loop's invariant: the count is how many of the links passed name p. Assumes nothing.
+-- `binning::namings` meets its contract. The loop's invariant: the count is how many of the links passed name p. Assumes nothing.
 use native.Mathlib.Omega.{arith}
 use Prim.Native.Nat.{ℕ, _+_, _-_, _≤_}
 use mathlib.Core.Path.{_≡_, sym, ap, _∙_, subst}
 use mathlib.Core.Logic.{⊎-elim}
 use lib.ListN.{length}
 use Rattle.editing.specs.Linked.{namings, namings-none, namings-hit, namings-miss}
-use Rattle.binning.proofs.naming.Statement.{statement}
-use Rattle.binning.proofs.naming.Tie as tie
+use Rattle.binning.proofs.namings.Statement.{statement}
+use Rattle.binning.proofs.namings.Tie as tie
 
 abbrev Inv-loop : tie.InvT-loop
 Inv-loop links p count₀ i₀ count i = (i ≤ length links) × (count ≤ i) × (count ≡ namings links p i)
@@ -58,8 +58,8 @@ loop-again c =
 returns : tie.Need-returns Inv-loop μ-loop
 returns c = c .before .loop .inv .2 ∙ ap (namings _ _) (omega arith)
 
-pub naming-spec : {M : Type 1} → statement M
-naming-spec =
+pub namings-spec : {M : Type 1} → statement M
+namings-spec =
     tie.close
     (tie.spec
     Inv-loop
