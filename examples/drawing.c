@@ -1,7 +1,8 @@
 /*
  * A drawing program's use of the store: a front and a back that name each other are drawn up, a
- * student is told which number of a link was wrong, and both are handed in by one seat, looked at,
- * and released by it alone; once by calls, once by a lent trace.
+ * student is told which number of a link was wrong, and both are handed in by one seat, twice as
+ * students press the button, looked at, and released by it alone; once by calls, once by a lent
+ * trace.
  */
 #include "pieces.h"
 #include <stdio.h>
@@ -63,6 +64,7 @@ static void by_calls(void) {
     look("front", front);
 
     accepted("freeze", pieces_freeze(AREAS, front, MINE));
+    accepted("freeze", pieces_freeze(AREAS, front, MINE));
     look("front", front);
     look("back", back);
     printf("release of back: refused, %u\n", pieces_refusal(pieces_release(AREAS, back, MINE)));
@@ -78,7 +80,7 @@ static void by_calls(void) {
 static void by_trace(void) {
     static const char trace[] =
         "n\nn\ns 0 0 1\ns 1 0 0\ns 0 4 1\ns 0 1 1024\ns 0 1 9\nl 0\n"
-        "f 0 3\nl 0\nl 1\nr 1 3\nr 0 4\nr 0 3\n";
+        "f 0 3\nf 0 3\nl 0\nl 1\nr 1 3\nr 0 4\nr 0 3\n";
     static uint8_t room[1000];
     uint64_t length = pieces_trace((const uint8_t *)trace, strlen(trace), room, sizeof room);
     if (pieces_trace_refusal(length)) {

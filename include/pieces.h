@@ -74,7 +74,7 @@ enum pieces_refusals {
     PIECES_FREE = 4,        /* free piece: P is a free number, there is no such piece now */
     PIECES_FREETARGET = 17, /* free target: T is a free number, there is no such piece to link to */
     PIECES_STATE = 5,       /* set or bin of a frozen piece; acquire or release of a draft */
-    PIECES_LIMIT = 6,       /* acquire or freeze of a frozen piece with 1,000 holds */
+    PIECES_LIMIT = 6,       /* a hold would be added to a frozen piece with 1,000 holds */
     PIECES_REGISTER = 14,   /* a hold would need a line of the register and all are used */
     PIECES_NOTHELD = 7,     /* release of a piece with 0 holds */
     PIECES_NOTYOURS = 13,   /* release of a piece that has holds, but none of this seat's */
@@ -117,7 +117,8 @@ uint64_t pieces_set(size_t n, uint8_t *states, size_t states_len, uint16_t *link
 
 /*
  * P and every draft it reaches become frozen; P gets one hold of the seat's. If P is frozen
- * already it only gets one more hold.
+ * already, the seat gets one hold on it if it has none; if it has one, the call is accepted and
+ * changes nothing: a second hand-in is the same hand-in.
  */
 uint64_t pieces_freeze(size_t n, uint8_t *states, size_t states_len, const uint16_t *links,
                        size_t links_len, uint16_t *leaders, size_t leaders_len, uint16_t *holds,

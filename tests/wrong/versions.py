@@ -42,7 +42,25 @@ BY_TRACE = [
     ("a target of none is looked up and found free", [
         ("commands.rs", "target.map_or(false, |t| self.states[t] == FREE)", "target.map_or(true, |t| self.states[t] == FREE)")]),
     ("freeze of a frozen piece gives no hold", [
-        ("commands.rs", "            return self.acquire(p, seat);", "            return nothing();")]),
+        ("commands.rs", "let held = self.line(start, seat).is_some();", "let held = true;")]),
+    ("a second hand-in counts", [
+        ("commands.rs", "let held = self.line(start, seat).is_some();", "let held = false;")]),
+    ("a second hand-in is refused by LIMIT, though no hold is added", [
+        ("commands.rs", "            let held = self.line(start, seat).is_some();\n",
+         "            if self.holds()[start] == u32::from(HOLDS) {\n                return Err(Refusal::Limit);\n            }\n"
+         "            let held = self.line(start, seat).is_some();\n")]),
+    ("a second hand-in is refused by REGISTER, though no line is needed", [
+        ("commands.rs", "            let held = self.line(start, seat).is_some();\n",
+         "            if self.register.len() == crate::tables::LINES {\n                return Err(Refusal::Register);\n            }\n"
+         "            let held = self.line(start, seat).is_some();\n")]),
+    ("another seat's hold makes a hand-in the second", [
+        ("commands.rs", "let held = self.line(start, seat).is_some();", "let held = self.holds()[start] > 0;")]),
+    ("a hold on another member makes a hand-in the second", [
+        ("commands.rs", "let held = self.line(start, seat).is_some();",
+         "let held = self.group(start, &self.namers()).iter().any(|&q| self.line(q, seat).is_some());")]),
+    ("the hand-in of another seat passes the limit", [
+        ("commands.rs", "{ nothing() } else { self.acquire(p, seat) };",
+         "{ nothing() } else { self.room(start, seat)?; self.one_more(start, seat); nothing() };")]),
     ("the limit is 999", [
         ("tables.rs", "HOLDS: u16 = 1_000", "HOLDS: u16 = 999")]),
     ("NOTHELD is judged by the group's count", [

@@ -8,11 +8,10 @@ use lib.Dec.{T, ltb, lt→ltb}
 use Rattle.rules.specs.Limits.{most}
 use Rattle.rules.specs.Register.{seatAt, pieceAt, numberAt, heldBy}
 use Rattle.rules.specs.Tables.{Base, Store, state, isFree, isDraft, holdsOf}
-use Rattle.rules.specs.Words.{Well, wfree, wdraft, wfrozen}
-use Rattle.rules.specs.Commands.{accepted, seatRefusals, tableRefusals, registerRefusals, refusals, notHeld, notYours, verdict}
+use Rattle.rules.specs.Commands.{accepted, isAgain, meant, seatRefusals, tableRefusals, registerRefusals, refusals, notHeld, notYours, verdict}
 use Rattle.rules.specs.Calls.{does, Areas, Outcome, isLent, doneBy, acceptedBy, acceptedCall, judge, Promise}
 use Rattle.rules.specs.History.{Event, isAccepted, History, addedBy, takenBy, HeldBy}
-use Rattle.rules.specs.declared.Command.the-variants.{Release}
+use Rattle.rules.specs.declared.Command.the-variants.{Freeze, Release}
 use Rattle.laws.specs.Words.{neqb-of}
 use Rattle.laws.specs.Rows.{first-none}
 use Rattle.laws.specs.Calls.{double-not, accepted-judged, accepted-outcome, judged, judge-through}
@@ -20,7 +19,9 @@ use Rattle.register.specs.Pairs.{held-by-in, held-by-some, held-by-line}
 use Rattle.register.specs.Steps.{held-by-more}
 use Rattle.register.specs.Kept.{right-ranged}
 use Rattle.demands.specs.Sound.{OkStore, →sound-store}
-use Rattle.demands.specs.Noted.{good, release-noted}
+use Rattle.demands.specs.Meant.{accepts-other}
+use Rattle.demands.specs.Noted.{release-noted}
+use Rattle.demands.specs.Again.{again-held, held-frozen, held-again}
 use Rattle.demands.specs.History.{follows}
 
 -- ---- on a sound store a release is accepted exactly where the seat has a hold
@@ -29,17 +30,12 @@ module _ (s : Store) (o : OkStore s) (i p : ℕ) where
   abbrev b : Base
   b = s .tables .base
 
-  held-frozen : p < b .n → 0 < holdsOf b p → Well b p → state b p ≡ 2
-  held-frozen h u (wfree w) = absurd (omega (arith, w .holds))
-  held-frozen h u (wdraft w) = absurd (omega (arith, w .holds))
-  held-frozen h u (wfrozen w) = w .is
-
   released : 0 < heldBy (s .register) i p → verdict s (Release p i) ≡ accepted
-  unfolding verdict refusals seatRefusals tableRefusals registerRefusals isFree isDraft notHeld notYours
+  unfolding verdict refusals meant isAgain seatRefusals tableRefusals registerRefusals isFree isDraft notHeld notYours
   released u =
       let w = right-ranged (b .n) (s .register) (o .sound .register) i p u in
       let k : 0 < holdsOf b p = omega (arith, o .sound .sums p (w .1), held-by-in (s .register) i p) in
-      let f = held-frozen (w .1) k (good s o .wells p (w .1)) in
+      let f = held-frozen o i p u .is in
       let seat = double-not (ltb i 32) (lt→ltb i 32 (w .0)) in
       let number = double-not (ltb p (b .n)) (lt→ltb p (b .n) (w .1)) in
       let free = neqb-of {m = state b p} {n = 0} (λ e. omega (arith, e, f)) in
@@ -49,7 +45,7 @@ module _ (s : Store) (o : OkStore s) (i p : ℕ) where
       first-none (refusals s (Release p i)) (seat, (number, (free, (draft, (none, (others, tt))))))
 
   pub release-held : (verdict s (Release p i) ≡ accepted) ↔ (0 < heldBy (s .register) i p)
-  release-held = (λ v. omega (arith, held-by-more (release-noted s o p i v)), released)
+  release-held = (λ v. omega (arith, held-by-more (release-noted s o p i (accepts-other refl v))), released)
 
 -- ---- after any history
 
@@ -70,6 +66,13 @@ module _ (n : ℕ) (small : n ≤ most) {h : List Event} {s : Store} (r : Histor
   seat-line i p = (
     λ x. held-by-some (s .register) i p (omega (arith, x, seat-number i p)),
     λ x. omega (arith, seat-number i p, x .1, held-by-line (s .register) i p (follows n small r .ok .sound .register .ordered) (x .0) (x .1) (x .2) (x .3)),
+  )
+
+  -- a freeze is a second hand-in exactly where the seat's own history holds the piece
+  pub freeze-again : (i p : ℕ) → T (isAgain s (Freeze p i)) ↔ HeldBy h i p
+  freeze-again i p = (
+    λ t. omega (arith, again-held s (Freeze p i) t, seat-number i p),
+    λ x. held-again (follows n small r .ok) i p (omega (arith, x, seat-number i p)),
   )
 
   -- a release is accepted for a seat exactly where its own history holds the piece

@@ -3,41 +3,44 @@ use mathlib.Core.Path.{_≡_, refl, sym, subst}
 use Prim.Native.Nat.{ℕ, _<_}
 use lib.Dec.{T, T-not}
 use Rattle.rules.specs.Register.{Right}
-use Rattle.rules.specs.Tables.{Store, finish}
-use Rattle.rules.specs.Commands.{Verdict, accepted, refused, after, verdict, noted, nextTables, nextStore, settled, stepTo}
+use Rattle.rules.specs.Tables.{Store, storeOn, finish}
+use Rattle.rules.specs.Commands.{Verdict, accepted, refused, meant, after, verdict, noted, nextTables, nextStore, settled, stepTo}
 use Rattle.rules.specs.Calls.{Call, check, Areas, Outcome, Promise}
 use Rattle.rules.specs.History.{isAccepted}
 use Rattle.rules.specs.declared.Command.{Command}
-use Rattle.laws.specs.Passes.{passes}
 use Rattle.laws.specs.Commands.{after-n}
 use Rattle.laws.specs.Commands as tables
-use Rattle.laws.specs.Verdicts.{all-accept}
 use Rattle.demands.specs.Sound.{OkStore, empty-ok}
-use Rattle.demands.specs.Noted.{good, noted-sums, noted-right}
+use Rattle.demands.specs.Meant.{Accepts, accepts-of}
+use Rattle.demands.specs.Noted.{good, by-tables, noted-sums, noted-right}
 use Rattle.demands.specs.Came.{Came, stayed, emptied, stepped, tested, came}
 
--- an accepted command leaves a sound store sound
-pub next-ok : (s : Store) (c : Command) → OkStore s → verdict s c ≡ accepted → OkStore (nextStore s c)
-unfolding nextStore
-next-ok s c o v = record {
+-- what is accepted leaves a sound store sound
+made-ok : (s : Store) (d : Command) → OkStore s → Accepts s d → OkStore (storeOn (nextTables (s .tables) d) (noted (s .register) d))
+made-ok s d o v = record {
   sized = record { tables = t .sized; register = right .ordered .size };
   sound = record {
     tables = t .sound;
-    register = unfold nextTables finish in (subst (λ (n : ℕ). Right n (noted (s .register) c)) (sym size) right);
-    sums = λ p h. unfold nextTables finish in (noted-sums s o c v p (subst (λ (n : ℕ). p < n) size (unfold nextTables finish in h)));
+    register = unfold nextTables finish in (subst (λ (n : ℕ). Right n (noted (s .register) d)) (sym size) right);
+    sums = λ p h. unfold nextTables finish in (noted-sums s o d v p (subst (λ (n : ℕ). p < n) size (unfold nextTables finish in h)));
   };
 }
   where
-    t : tables.Ok (nextTables (s .tables) c)
-    t = tables.next-ok (s .tables) c (record { sized = o .sized .tables; sound = o .sound .tables }) (passes (s .tables .base) c (all-accept v .tables))
+    t : tables.Ok (nextTables (s .tables) d)
+    t = tables.next-ok (s .tables) d (record { sized = o .sized .tables; sound = o .sound .tables }) (by-tables s o v)
 
-    size : after (s .tables .base) c .n ≡ s .tables .base .n
-    size = after-n (s .tables .base) (o .sized .tables .base) (good s o) c
+    size : after (s .tables .base) d .n ≡ s .tables .base .n
+    size = after-n (s .tables .base) (o .sized .tables .base) (good s o) d
 
-    right : Right (s .tables .base .n) (noted (s .register) c)
-    right = noted-right s o c v
+    right : Right (s .tables .base .n) (noted (s .register) d)
+    right = noted-right s o d v
 
--- and so does any command
+-- so does an accepted command
+pub next-ok : (s : Store) (c : Command) → OkStore s → verdict s c ≡ accepted → OkStore (nextStore s c)
+unfolding nextStore
+next-ok s c o v = made-ok s (meant s c) o (accepts-of s c v)
+
+-- and any command
 pub step-ok : (s : Store) (c : Command) → OkStore s → OkStore (stepTo s c)
 unfolding stepTo settled
 step-ok s c o = go (verdict s c) refl

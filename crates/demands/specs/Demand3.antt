@@ -14,7 +14,7 @@ use Rattle.rules.specs.Lists.{Among, Ascending, nil}
 use Rattle.rules.specs.Below.{list}
 use Rattle.rules.specs.Tables.{Base, Store, state, holdsOf, finish, emptyTables}
 use Rattle.rules.specs.Words.{Draft, Frozen, Live, Root, Kept, SizedBase, Well, wfree, wdraft, wfrozen}
-use Rattle.rules.specs.Commands.{accepted, gone, goneList, edit, settles, freedBy, after, nextTables, nextStore}
+use Rattle.rules.specs.Commands.{accepted, meant, gone, goneList, edit, settles, freedBy, after, nextTables, nextStore}
 use Rattle.rules.specs.Calls.{Call, start, does, check, Areas, Outcome, doneBy, acceptedBy, listing}
 use Rattle.rules.specs.Calls.{cleared, acceptedCall, judge, outcomeOf, Promise}
 use Rattle.rules.specs.History.{Event, event, isAccepted, History, accepting, added, taken, Held, freedIn, listed, Reached, changed, Listing}
@@ -27,6 +27,7 @@ use Rattle.laws.specs.Commands.{edit-n, edit-well, freed↔}
 use Rattle.laws.specs.Verdicts.{all-accept}
 use Rattle.laws.specs.Calls.{accepted-judged, accepted-outcome, judged}
 use Rattle.laws.specs.Held.{after-same}
+use Rattle.demands.specs.Meant.{freed-meant, bin-meant, meant-bin}
 use Rattle.demands.specs.History.{Follows, follows}
 use Rattle.laws.specs.Freed.{alone}
 
@@ -98,20 +99,24 @@ module _ (n : ℕ) (h : List Event) (a : Areas) (st : Follows n h (a .store)) (o
   base-good : Good (a .store .tables .base)
   base-good = sound→entries (a .store .tables) (st .ok .sound .tables) .good
 
-  command-listing : (c : Command) → Passes (a .store .tables .base) c → Follows n (event (does c) o ∷ h) (o .areas .store) → listed o ≡ freedBy (a .store .tables .base) c
-      → o .areas .store .tables .base ≡ after (a .store .tables .base) c → o .areas .list ≡ listing (freedBy (a .store .tables .base) c) (a .list) → Listing h (does c) a o
+  command-listing : (c : Command) → Passes (a .store .tables .base) (meant (a .store) c) → Follows n (event (does c) o ∷ h) (o .areas .store)
+      → listed o ≡ freedBy (a .store .tables .base) (meant (a .store) c) → o .areas .store .tables .base ≡ after (a .store .tables .base) (meant (a .store) c)
+      → o .areas .list ≡ listing (freedBy (a .store .tables .base) (meant (a .store) c)) (a .list) → Listing h (does c) a o
   unfolding changed
   command-listing c ps st′ ls bs li = record {
     exact = λ p. subst (λ (l : List ℕ). Among p l ↔ (Frozen e p × (¬ Reached h′ e p))) (sym ls)
         (λ m. let x = freed p .0 m in (x .0, λ r. x .1 (reached→kept h′ e wells held p r)), λ x. freed p .1 (x .0, λ k. x .1 (kept→reached h′ e wells held p k)));
-    ascending = subst Ascending (sym ls) (ascending-freed b c);
+    ascending = subst Ascending (sym ls) (ascending-freed b d);
     rest = li ∙ (unfold listing in (ap (λ (l : List ℕ). l ++ drop (length l) (a .list)) (sym ls)));
-    alone = λ d p. let x = alone b z base-good c ps p in (
-      λ y. ⊎-elim (λ m. inl (subst (Among p) (sym ls) m)) (λ m. inr (ap does m)) (x .0 (y .0, ap (λ (q : Base). state q p) (sym bs) ∙ y .1)),
-      ⊎-elim (λ m. back (x .1 (inl (subst (Among p) ls m)))) (λ m. back (x .1 (inr (bin-of m)))),
+    alone = λ no p. let x = alone b z base-good d ps p in (
+      λ y. ⊎-elim (λ m. inl (subst (Among p) (sym ls) m)) (λ m. inr (ap does (bin-meant (a .store) c m))) (x .0 (y .0, ap (λ (q : Base). state q p) (sym bs) ∙ y .1)),
+      ⊎-elim (λ m. back (x .1 (inl (subst (Among p) ls m)))) (λ m. back (x .1 (inr (meant-bin (a .store) (bin-of m))))),
     );
   }
     where
+      d : Command
+      d = meant (a .store) c
+
       z : SizedBase (a .store .tables .base)
       z = st .ok .sized .tables .base
 
@@ -119,27 +124,27 @@ module _ (n : ℕ) (h : List Event) (a : Areas) (st : Follows n h (a .store)) (o
       b = a .store .tables .base
 
       e : Base
-      e = edit b c
+      e = edit b d
 
       h′ : List Event
       h′ = event (does c) o ∷ h
 
-      freed : (p : ℕ) → Among p (freedBy b c) ↔ (Frozen e p × (¬ Kept e p))
-      freed p = freed↔ b (st .ok .sized .tables .base) base-good c ps p
+      freed : (p : ℕ) → Among p (freedBy b d) ↔ (Frozen e p × (¬ Kept e p))
+      freed p = freed↔ b (st .ok .sized .tables .base) base-good d ps p
 
       wells : (p : ℕ) → p < e .n → Well e p
-      wells = edit-well b z base-good c ps
+      wells = edit-well b z base-good d ps
 
       held : (p : ℕ) → p < e .n → holdsOf e p + taken p h′ ≡ added p h′
       held p l =
-          let m : p < b .n = subst (λ (x : ℕ). p < x) (edit-n b z base-good c) l in
+          let m : p < b .n = subst (λ (x : ℕ). p < x) (edit-n b z base-good d) l in
           let i : p < n = subst (λ (x : ℕ). p < x) (st .size) m in
           let x = st′ .held p i in
-          let y : holdsOf (o .areas .store .tables .base) p ≡ holdsOf (after b c) p = ap (λ (q : Base). holdsOf q p) bs in
-          let w = after-same b z base-good c p m in
+          let y : holdsOf (o .areas .store .tables .base) p ≡ holdsOf (after b d) p = ap (λ (q : Base). holdsOf q p) bs in
+          let w = after-same b z base-good d p m in
           omega arith
 
-      back : {p : ℕ} → Live b p × (state (after b c) p ≡ 0) → Live b p × (state (o .areas .store .tables .base) p ≡ 0)
+      back : {p : ℕ} → Live b p × (state (after b d) p ≡ 0) → Live b p × (state (o .areas .store .tables .base) p ≡ 0)
       back {p} y = (y .0, ap (λ (q : Base). state q p) bs ∙ y .1)
 
       bin-of : {p : ℕ} → does c ≡ does (Bin p) → c ≡ Bin p
@@ -192,8 +197,10 @@ demand3 n m h c a o r p t = go c (accepted-judged a c (subst (λ (x : Outcome). 
     go start j e st′ = subst (Listing h start a) (sym (e ∙ accepted-outcome a start j)) (start-listing h a)
     go (does c) j e st′ =
         let x : o ≡ acceptedCall (cleared a (does c)) (does c) = e ∙ accepted-outcome a (does c) j in
-        let ls : listed o ≡ freedBy (a .store .tables .base) c = ap listed x ∙ listed-command (cleared a (does c)) c in
-        let bs : o .areas .store .tables .base ≡ after (a .store .tables .base) c = ap (λ (y : Outcome). y .areas .store .tables .base) x in
-        let li : o .areas .list ≡ listing (freedBy (a .store .tables .base) c) (a .list) = ap (λ (y : Outcome). y .areas .list) x in
-        command-listing n h a st o c (passes (a .store .tables .base) c (all-accept (judged a c j .verdict) .tables)) st′ ls bs li
+        let f : freedBy (a .store .tables .base) c ≡ freedBy (a .store .tables .base) (meant (a .store) c) = sym (freed-meant (a .store) c (a .store .tables .base)) in
+        let ls : listed o ≡ freedBy (a .store .tables .base) (meant (a .store) c) = ap listed x ∙ listed-command (cleared a (does c)) c ∙ f in
+        let bs : o .areas .store .tables .base ≡ after (a .store .tables .base) (meant (a .store) c) = ap (λ (y : Outcome). y .areas .store .tables .base) x in
+        let li : o .areas .list ≡ listing (freedBy (a .store .tables .base) (meant (a .store) c)) (a .list) =
+        ap (λ (y : Outcome). y .areas .list) x ∙ ap (λ (l : List ℕ). listing l (a .list)) f in
+        command-listing n h a st o c (passes (a .store .tables .base) (meant (a .store) c) (all-accept (judged a c j .verdict) .tables)) st′ ls bs li
     go check j e st′ = check-listing n h a st o (e ∙ accepted-outcome a check j) st′

@@ -1,5 +1,8 @@
 pub mod Sound
+pub mod Meant
 pub mod Noted
+pub mod Again
+pub mod Adding
 pub mod Came
 pub mod Seats
 pub mod Demand2
@@ -12,4 +15,5 @@ pub mod Demand3
 pub mod Visible
 pub mod Lines
 pub mod Told
+pub mod Twice
 pub mod Calling

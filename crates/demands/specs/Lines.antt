@@ -1,6 +1,7 @@
 -- The lines of a sound store name frozen pieces alone, so a freed or binned piece has none; a hold more and less again gives the register back.
 use mathlib.Core.Path.{_≡_, refl, sym, ap, _∙_, subst}
 use mathlib.Core.Logic.{_⊎_, ⊎-elim, inl, inr}
+use mathlib.Core.Bool.{not}
 use mathlib.Core.List.{List}
 use Prim.Native.Nat.{ℕ, _<_}
 use native.Mathlib.Omega.{arith}
@@ -10,17 +11,19 @@ use Rattle.rules.specs.Lists.{Among}
 use Rattle.rules.specs.Register.{pieceAt, numberAt, oneMoreBy, oneLessBy}
 use Rattle.rules.specs.Tables.{Store, state, finish}
 use Rattle.rules.specs.Words.{Frozen, Well, wfree, wdraft, wfrozen}
-use Rattle.rules.specs.Commands.{pieceOf, seatOf, isFreeze, isAcquire, accepted, verdict, after, freedBy, noted, nextTables, nextStore}
+use Rattle.rules.specs.Commands.{pieceOf, seatOf, isFreeze, isAcquire, isAgain, meant, accepted, verdict, freedBy, noted, nextTables, nextStore}
 use Rattle.rules.specs.Calls.{Call, does, check, Areas, Outcome, Promise}
 use Rattle.rules.specs.History.{isAccepted, listed}
 use Rattle.rules.specs.declared.Command.{Command}
 use Rattle.rules.specs.declared.Command.the-variants.{New, Set, Freeze, Acquire, Release, Bin, Look}
 use Rattle.laws.specs.Calls.{accepted-judged}
+use Rattle.laws.specs.Verdicts.{not-again}
 use Rattle.laws.specs.Freed.{alone}
 use Rattle.register.specs.Holds.{held-none}
 use Rattle.register.specs.Steps.{Stepped, less-steps, held-by-more}
 use Rattle.register.specs.Ways.{back-one}
 use Rattle.demands.specs.Sound.{OkStore}
+use Rattle.demands.specs.Meant.{Accepts, first-is, accepts-of, accepts-itself, freed-meant, meant-bin}
 use Rattle.demands.specs.Noted.{good, by-tables, freeze-noted, acquire-noted}
 use Rattle.demands.specs.Came.{Came, stayed, stepped, came}
 use Rattle.demands.specs.Demand2.{accepted-ok}
@@ -63,19 +66,21 @@ module _ {a : Areas} {o : Outcome} where
       go (stayed u e) = absurd (T-not (isAccepted (o .reply)) u t)
       go (stepped c u ok v r e) =
           ap (λ (s : Store). state (s .tables .base) p) e ∙ (unfold nextStore nextTables finish in
-          (alone (a .store .tables .base) (ok .sized .tables .base) (good (a .store) ok) c (by-tables (a .store) ok v) p .1
-          (⊎-elim (λ m. inl (subst (Among p) listed-here m)) (λ m. inr m) x) .1))
+          (alone (a .store .tables .base) (ok .sized .tables .base) (good (a .store) ok) (meant (a .store) c) (by-tables (a .store) ok (accepts-of (a .store) c v)) p .1
+          (⊎-elim (λ m. inl (subst (Among p) listed-here m)) (λ m. inr (meant-bin (a .store) m)) x) .1))
         where
-          listed-here : listed o ≡ freedBy (a .store .tables .base) c
-          listed-here = listed-is a o c q (accepted-judged a (does c) (subst (λ (y : Outcome). T (isAccepted (y .reply))) (q .exact) t))
+          listed-here : listed o ≡ freedBy (a .store .tables .base) (meant (a .store) c)
+          listed-here =
+              listed-is a o c q (accepted-judged a (does c) (subst (λ (y : Outcome). T (isAccepted (y .reply))) (q .exact) t))
+              ∙ sym (freed-meant (a .store) c (a .store .tables .base))
 
 -- ---- a hold more and less again
 
 back-again : {l : List ℕ} {i p : ℕ} → Stepped l i p (oneMoreBy l i p) → oneLessBy (oneMoreBy l i p) i p ≡ l
 back-again {l} {i} {p} t = back-one (λ a b. refl) (less-steps (oneMoreBy l i p) (t .to) i p (omega (arith, held-by-more t))) t
 
--- an accepted freeze or acquire, and a release by the same seat of the same piece
-pub noted-back : (s : Store) → OkStore s → (c : Command) → T (isFreeze c or isAcquire c) → verdict s c ≡ accepted
+-- a freeze or acquire that is accepted as it is, and a release by the same seat of the same piece
+pub noted-back : (s : Store) → OkStore s → (c : Command) → T (isFreeze c or isAcquire c) → Accepts s c
     → noted (noted (s .register) c) (Release (pieceOf c) (seatOf c)) ≡ s .register
 unfolding noted
 noted-back s o New t v = absurd t
@@ -86,13 +91,22 @@ noted-back s o (Release p i) t v = absurd t
 noted-back s o (Bin p) t v = absurd t
 noted-back s o (Look p) t v = absurd t
 
--- the same of two calls, one after the other
-pub given-back : {c : Command} {a a′ : Areas} {o o′ : Outcome} → T (isFreeze c or isAcquire c) → Promise (does c) a o → T (isAccepted (o .reply)) → a′ .store ≡ o .areas .store
-    → Promise (does (Release (pieceOf c) (seatOf c))) a′ o′ → T (isAccepted (o′ .reply)) → o′ .areas .store .register ≡ a .store .register
-given-back {c} {a} {a′} {o} {o′} adds q t same q′ t′ = go (came q) (came q′)
+-- the same of two stores, where the first command is no second hand-in
+pub next-back : (s s′ : Store) → OkStore s → (c : Command) → T (isFreeze c or isAcquire c) → T (not (isAgain s c)) → verdict s c ≡ accepted → s′ ≡ nextStore s c
+    → nextStore s′ (Release (pieceOf c) (seatOf c)) .register ≡ s .register
+unfolding nextStore
+next-back s s′ o c adds first v e =
+    ap (noted (s′ .register)) (not-again s′ (Release (pieceOf c) (seatOf c)) refl .is)
+    ∙ ap (λ (x : Store). noted (x .register) (Release (pieceOf c) (seatOf c))) e
+    ∙ ap (λ (d : Command). noted (noted (s .register) d) (Release (pieceOf c) (seatOf c))) (first-is s c first)
+    ∙ noted-back s o c adds (accepts-itself (first-is s c first) v)
+
+-- and of two calls, one after the other
+pub given-back : {c : Command} {a a′ : Areas} {o o′ : Outcome} → T (isFreeze c or isAcquire c) → T (not (isAgain (a .store) c)) → Promise (does c) a o → T (isAccepted (o .reply))
+    → a′ .store ≡ o .areas .store → Promise (does (Release (pieceOf c) (seatOf c))) a′ o′ → T (isAccepted (o′ .reply)) → o′ .areas .store .register ≡ a .store .register
+given-back {c} {a} {a′} {o} {o′} adds first q t same q′ t′ = go (came q) (came q′)
   where
     go : Came a o (does c) → Came a′ o′ (does (Release (pieceOf c) (seatOf c))) → o′ .areas .store .register ≡ a .store .register
     go (stayed u e) y = absurd (T-not (isAccepted (o .reply)) u t)
     go (stepped c u ok v r e) (stayed u′ e′) = absurd (T-not (isAccepted (o′ .reply)) u′ t′)
-    go (stepped c u ok v r e) (stepped k u′ ok′ v′ r′ e′) = unfold nextStore in
-        (ap (λ (s : Store). s .register) e′ ∙ ap (λ (s : Store). noted (s .register) (Release (pieceOf c) (seatOf c))) (same ∙ e) ∙ noted-back (a .store) ok c adds v)
+    go (stepped c u ok v r e) (stepped k u′ ok′ v′ r′ e′) = ap (λ (s : Store). s .register) e′ ∙ next-back (a .store) (a′ .store) ok c adds first v (same ∙ e)

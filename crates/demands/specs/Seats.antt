@@ -1,5 +1,6 @@
 -- No call naming one seat changes another seat's lines, though their places may shift; for all areas, refused calls included.
 use mathlib.Core.Path.{_≡_, refl, sym, ap, _∙_, subst}
+use mathlib.Core.Logic.{⊎-elim}
 use mathlib.Core.Bool.{Bool, true, false, not}
 use mathlib.Core.List.{List}
 use Prim.Native.Nat.{ℕ}
@@ -8,7 +9,7 @@ use lib.ListN.{replicate}
 use Rattle.rules.specs.Limits.{entries}
 use Rattle.rules.specs.Register.{heldBy}
 use Rattle.rules.specs.Tables.{Store, empty}
-use Rattle.rules.specs.Commands.{seatOf, namesSeat, accepted, verdict, noted, nextStore}
+use Rattle.rules.specs.Commands.{pieceOf, seatOf, namesSeat, accepted, meant, verdict, noted, nextStore}
 use Rattle.rules.specs.Calls.{start, does, Call, Areas, Outcome, Promise}
 use Rattle.rules.specs.History.{isAccepted, commands}
 use Rattle.rules.specs.declared.Command.{Command}
@@ -19,6 +20,7 @@ use Rattle.register.specs.Moves.{SameLine}
 use Rattle.register.specs.Steps.{Stepped}
 use Rattle.register.specs.Kept.{SameLines, lines-flip, other-seat, other-lines}
 use Rattle.demands.specs.Sound.{OkStore}
+use Rattle.demands.specs.Meant.{Accepts, meant-cases, accepts-itself, bare-meant}
 use Rattle.demands.specs.Noted.{freeze-noted, acquire-noted, release-noted}
 use Rattle.demands.specs.Came.{Came, stayed, emptied, stepped, tested, came}
 
@@ -40,7 +42,7 @@ seat-less : {l m : List ℕ} {i p t : ℕ} → Stepped m i p l → (i ≡ t → 
 seat-less {t = t} w d = record { holds = λ q. sym (other-seat w t q d); lines = lines-flip (other-lines w t d) }
 
 -- an accepted command leaves every seat but its own
-noted-others : (s : Store) → OkStore s → (c : Command) → verdict s c ≡ accepted → (t : ℕ) → (seatOf c ≡ t → ⊥) → SameSeat t (s .register) (noted (s .register) c)
+noted-others : (s : Store) → OkStore s → (c : Command) → Accepts s c → (t : ℕ) → (seatOf c ≡ t → ⊥) → SameSeat t (s .register) (noted (s .register) c)
 unfolding noted
 noted-others s o New v t d = same-seat
 noted-others s o (Set p k q) v t d = same-seat
@@ -50,13 +52,25 @@ noted-others s o (Release p i) v t d = seat-less (release-noted s o p i v) d
 noted-others s o (Bin p) v t d = same-seat
 noted-others s o (Look p) v t d = same-seat
 
+-- a second hand-in leaves all
+next-others : (s : Store) → OkStore s → (c : Command) → verdict s c ≡ accepted → (t : ℕ) → (seatOf c ≡ t → ⊥) → SameSeat t (s .register) (noted (s .register) (meant s c))
+next-others s o c v t d = ⊎-elim
+    (λ x. subst kept (sym (x .1)) looked)
+    (λ x. subst kept (sym (x .1)) (noted-others s o c (accepts-itself (x .1) v) t d)) (meant-cases s c)
+  where
+    kept : Command → Type 0
+    kept k = SameSeat t (s .register) (noted (s .register) k)
+
+    looked : SameSeat t (s .register) (noted (s .register) (Look (pieceOf c)))
+    looked = unfold noted in same-seat
+
 -- a call that names a seat leaves every other seat; one that names none is said below
 pub other-seats : {c : Command} {a : Areas} {o : Outcome} → Promise (does c) a o → (t : ℕ) → (seatOf c ≡ t → ⊥) → SameSeat t (a .store .register) (o .areas .store .register)
 other-seats {c} {a} {o} p t d = go (came p)
   where
     go : Came a o (does c) → SameSeat t (a .store .register) (o .areas .store .register)
     go (stayed u e) = subst (λ (s : Store). SameSeat t (a .store .register) (s .register)) (sym e) same-seat
-    go (stepped c u ok v r e) = subst (λ (s : Store). SameSeat t (a .store .register) (s .register)) (sym e) (unfold nextStore in (noted-others (a .store) ok c v t d))
+    go (stepped c u ok v r e) = subst (λ (s : Store). SameSeat t (a .store .register) (s .register)) (sym e) (unfold nextStore in (next-others (a .store) ok c v t d))
 
 -- a call that names no seat leaves the whole register, but for start
 pub no-seat : {c : Call} {a : Areas} {o : Outcome} → Promise c a o → T (not (commands namesSeat c)) → (c ≡ start → ⊥) → o .areas .store .register ≡ a .store .register
@@ -70,7 +84,7 @@ no-seat {c} {a} {o} p n d = go (came p) n d
     go (stayed u e) n d = ap (λ (s : Store). s .register) e
     go (emptied u m e) n d = absurd (d refl)
     go (stepped c u ok v r e) n d =
-        ap (λ (s : Store). s .register) e ∙ (unfold nextStore commands in (bare-noted (a .store .register) c (off (namesSeat c) n)))
+        ap (λ (s : Store). s .register) e ∙ (unfold nextStore commands in (bare-noted (a .store .register) (meant (a .store) c) (bare-meant (a .store) c (off (namesSeat c) n))))
     go (tested e) n d = ap (λ (s : Store). s .register) e
 
 -- so does every refused call

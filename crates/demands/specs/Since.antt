@@ -1,15 +1,16 @@
 -- What one call adds to the history of a piece: it begins it anew, or is counted.
-use mathlib.Core.Path.{_≡_, refl, ap, subst}
+use mathlib.Core.Path.{_≡_, refl, ap, _∙_, subst}
 use mathlib.Core.Logic.{⊎-elim}
 use mathlib.Core.Bool.{Bool, true, false, not}
 use mathlib.Core.List.{List, [], _∷_}
-use Prim.Native.Nat.{ℕ, _+_}
+use Prim.Native.Nat.{ℕ, _+_, _-_}
+use native.Mathlib.Omega.{arith}
 use lib.Dec.{T, T-not, not-T, eqb→eq}
 use Rattle.rules.specs.Tests.{_or_, _&_, onlyIf}
 use Rattle.rules.specs.Tables.{Store}
 use Rattle.rules.specs.Commands.{isNew, firstFree, valueOf}
 use Rattle.rules.specs.Calls.{Call, does, Reply, answered, saw, checked, Outcome, doneBy, acceptedBy}
-use Rattle.rules.specs.History.{Event, event, isAccepted, commands, acceptedOf, hasValue, givesOut, isStart, starts, since, often}
+use Rattle.rules.specs.History.{Event, event, isAccepted, commands, acceptedOf, hasValue, givesOut, isStart, starts, since, often, addsBy, takesBy, addedBy, takenBy}
 use Rattle.rules.specs.declared.Command.{Command}
 use Rattle.rules.specs.declared.Command.the-variants.{New, Set, Freeze, Acquire, Release, Bin, Look}
 use Rattle.rules.specs.declared.Answer.the-variants.{Done, Refused}
@@ -20,13 +21,38 @@ use Rattle.laws.specs.Below.{pick-true, pick-false}
 abbrev pub anew : ℕ → Event → Bool
 anew p e = givesOut p e or starts e
 
-pub often-on : (f : Event → Bool) (p : ℕ) (e : Event) (h : List Event) → T (not (anew p e)) → often f (since p (e ∷ h)) ≡ onlyIf (f e) 1 + often f (since p h)
+often-on : (f : Event → Bool) (p : ℕ) (e : Event) (h : List Event) → T (not (anew p e)) → often f (since p (e ∷ h)) ≡ onlyIf (f e) 1 + often f (since p h)
 unfolding often since
 often-on f p e h t = ap (often f) (pick-false (anew p e) [] (e ∷ since p h) t)
 
-pub often-anew : (f : Event → Bool) (p : ℕ) (e : Event) (h : List Event) → T (anew p e) → often f (since p (e ∷ h)) ≡ 0
+often-anew : (f : Event → Bool) (p : ℕ) (e : Event) (h : List Event) → T (anew p e) → often f (since p (e ∷ h)) ≡ 0
 unfolding often since
 often-anew f p e h t = ap (often f) (pick-true (anew p e) [] (e ∷ since p h) t)
+
+-- ---- what a seat took and added
+
+module _ (i p : ℕ) (e : Event) (h : List Event) where
+  pub taken-on : T (not (anew p e)) → takenBy i p (e ∷ h) ≡ onlyIf (acceptedOf (takesBy i p) e) 1 + takenBy i p h
+  unfolding takenBy
+  taken-on t = often-on (acceptedOf (takesBy i p)) p e h t
+
+  pub taken-anew : T (anew p e) → takenBy i p (e ∷ h) ≡ 0
+  unfolding takenBy
+  taken-anew t = often-anew (acceptedOf (takesBy i p)) p e h t
+
+  -- where it held x before the call
+  pub added-on : T (not (anew p e)) → (x : ℕ) → x + takenBy i p h ≡ addedBy i p h → addedBy i p (e ∷ h) ≡ onlyIf (acceptedOf (addsBy i p x) e) 1 + addedBy i p h
+  unfolding addedBy
+  added-on t x k = pick-false (anew p e) 0 _ t ∙ ap (λ (y : ℕ). onlyIf (acceptedOf (addsBy i p y) e) 1 + addedBy i p h) less
+    where
+      less : addedBy i p h - takenBy i p h ≡ x
+      less = omega (arith, k)
+
+  pub added-anew : T (anew p e) → addedBy i p (e ∷ h) ≡ 0
+  unfolding addedBy
+  added-anew t = pick-true (anew p e) 0 _ t
+
+-- ---- which calls begin anew
 
 -- what is not accepted has no value
 refused-value : (p : ℕ) (r : Reply) → T (not (isAccepted r)) → T (hasValue p r) → ⊥

@@ -4,7 +4,7 @@ use Prim.Native.Nat.{ℕ, _≤_}
 use mathlib.Core.List.{List}
 use Rattle.rules.specs.Limits.{most}
 use Rattle.rules.specs.Tables.{Store, finish, emptyTables, empty}
-use Rattle.rules.specs.Commands.{nextTables, nextStore}
+use Rattle.rules.specs.Commands.{meant, nextTables, nextStore}
 use Rattle.rules.specs.Calls.{Call}
 use Rattle.rules.specs.History.{Event, History, begun, refusing, accepting}
 use Rattle.laws.specs.Commands.{after-n}
@@ -27,6 +27,6 @@ stands n m (accepting c a o r p t) = go (stands n m r) (came p)
     go st (emptied u k e) = subst (Stands n) (sym e) (record { ok = empty-ok (a .store .tables .base .n) k; size = unfold empty emptyTables in (st .size) })
     go st (stepped c u ok v r e) = subst (Stands n) (sym e) (record {
       ok = next-ok (a .store) c ok v;
-      size = unfold nextStore nextTables finish in (after-n (a .store .tables .base) (ok .sized .tables .base) (good (a .store) ok) c ∙ st .size);
+      size = unfold nextStore nextTables finish in (after-n (a .store .tables .base) (ok .sized .tables .base) (good (a .store) ok) (meant (a .store) c) ∙ st .size);
     })
     go st (tested e) = subst (Stands n) (sym e) st

@@ -12,7 +12,7 @@ use Rattle.rules.specs.Tables.{Base, state, isFrozen, linkAt, holdsOf}
 use Rattle.rules.specs.Words.{Frozen, Live, Reaches, Root, Kept, SizedBase, Well, wfree, wdraft, wfrozen}
 use Rattle.rules.specs.Commands.{tableRefusals, withLinks, withHolds, oneLess, freeAll, edit, settles, freedBy}
 use Rattle.rules.specs.Calls.{Call, start, does, check, Areas, Outcome, judge, Promise}
-use Rattle.rules.specs.Commands.{accepted}
+use Rattle.rules.specs.Commands.{accepted, meant}
 use Rattle.rules.specs.History.{Event, event, isAccepted, History, accepting, added, taken, listed, Reached, changed, Listing}
 use Rattle.rules.specs.declared.Refusal.the-variants.{State}
 use Rattle.rules.specs.declared.Command.{Command}
@@ -25,6 +25,7 @@ use Rattle.laws.specs.Passes.{applies, Passes, not-by, passes}
 use Rattle.laws.specs.Commands.{freed↔}
 use Rattle.laws.specs.Verdicts.{all-accept}
 use Rattle.laws.specs.Calls.{accepted-judged, judged}
+use Rattle.demands.specs.Meant.{freed-meant, accepts-other}
 use Rattle.demands.specs.History.{Follows, follows}
 use Rattle.demands.specs.Demand3.{demand3, kept→reached, reached→kept, listed-is}
 
@@ -121,9 +122,9 @@ demand3-seen n m h c a o r q t d p = (to, from)
     was start e x = absurd (d e)
     was (does k) e x =
         let y : judge a (does k) ≡ accepted = subst (λ (v : Call). judge a v ≡ accepted) e j in
-        freed-frozen b (st .ok .sized .tables .base) good k (passes b k (all-accept (judged a k y .verdict) .tables)) p
-        (subst (Among p) (listed-is a o k (subst (λ (v : Call). Promise v a o) e q) y) x)
-    was check e x = unfold changed in (subst (λ (v : Call). Frozen (changed b v) p) e (all .exact p .0 x .0))
+        freed-frozen b (st .ok .sized .tables .base) good (meant (a .store) k) (passes b (meant (a .store) k) (all-accept (judged a k y .verdict) .tables)) p
+        (subst (Among p) (listed-is a o k (subst (λ (v : Call). Promise v a o) e q) y ∙ sym (freed-meant (a .store) k b)) x)
+    was check e x = unfold changed in (subst (λ (v : Call). Frozen (changed (a .store) v) p) e (all .exact p .0 x .0))
 
     to : Among p (listed o) → Frozen b p × (¬ Reached h′ b′ p)
     to x = (was c refl x, λ y. gone (kept-live b′ (st′ .ok .sized .tables .base .most) (good′ .wells) p (reached→kept h′ b′ (good′ .wells) held p y)))
@@ -140,7 +141,7 @@ demand3-seen n m h c a o r q t d p = (to, from)
         binned : c ≡ does (Bin p) → Among p (listed o)
         binned e =
             let y : judge a (does (Bin p)) ≡ accepted = subst (λ (v : Call). judge a v ≡ accepted) e j in
-            absurd (not-frozen-bin b p (passes b (Bin p) (all-accept (judged a (Bin p) y .verdict) .tables)) (x .0))
+            absurd (not-frozen-bin b p (passes b (Bin p) (accepts-other {s = a .store} refl (judged a (Bin p) y .verdict) .tables)) (x .0))
 
         go : Well b′ p → Among p (listed o)
         go (wfree w) = ⊎-elim (λ y. y) binned (all .alone d p .0 (inr (x .0), w .is))

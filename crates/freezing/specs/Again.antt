@@ -1,5 +1,5 @@
 -- Freeze and its refusals: of a piece that is no draft, freeze does what acquire does.
-use mathlib.Core.Path.{_≡_, refl, sym, ap, _∙_}
+use mathlib.Core.Path.{_≡_, refl, sym, ap, _∙_, subst}
 use mathlib.Core.List.{List, [], _∷_}
 use mathlib.Core.Bool.{Bool, true, false, not}
 use Prim.Native.Nat.{ℕ, _<_}
@@ -14,6 +14,7 @@ use Rattle.rules.specs.Calls.{Ready, ReadyStore, answered, refusedBy, acceptedB
 use Rattle.rules.specs.Register.{heldBy, isFull, oneMoreBy}
 use Rattle.rules.specs.declared.Refusal.{Refusal}
 use Rattle.rules.specs.declared.Refusal.the-variants.{Number, Free, State, Limit, Register}
+use Rattle.rules.specs.declared.Command.{Command}
 use Rattle.rules.specs.declared.Command.the-variants.{Freeze, Acquire}
 use Rattle.rules.specs.declared.Answer.{Answer}
 use Rattle.rules.specs.declared.Answer.the-variants.{Refused}
@@ -24,8 +25,8 @@ use Rattle.laws.specs.Words.{neqb-of, isDraft→, →isFrozen}
 use Rattle.laws.specs.Passes.{applies, Passes, not-by, passes, live-frozen, tableVerdict}
 use Rattle.laws.specs.ByTables.{did-accepted}
 use Rattle.laws.specs.Rows.{andThen, first-none}
-use Rattle.laws.specs.Verdicts.{seatVerdict, registerVerdict, verdict-is, all-accept}
-use Rattle.laws.specs.Seated.{freeze-adds, any-freeze, refused-line, done-more}
+use Rattle.laws.specs.Verdicts.{seatVerdict, registerVerdict, own-verdict, all-accept, Itself}
+use Rattle.laws.specs.Seated.{freeze-adds, acquire-itself, any-freeze, refused-line, done-more}
 use Rattle.laws.specs.Calls.{ready-tables}
 use Rattle.laws.specs.Tests.{same-test}
 use Rattle.tallies.specs.Stores.{wells-of}
@@ -33,6 +34,7 @@ use Rattle.naming.specs.Rows.{pieceRows}
 use Rattle.naming.specs.Told.{NamedPiece}
 use Rattle.naming.specs.Names.{Names, names-passed}
 use Rattle.holding.specs.Acquired.{none-said, room-said}
+use Rattle.freezing.specs.Twice.{first-itself, draft-itself}
 
 and-off : (x y : Bool) → T (not x) → T (not (x & y))
 and-off true y t = absurd t
@@ -73,7 +75,7 @@ module _ {s : Tables} (ready : Ready s) {p : ℕ} (named : NamedPiece (s .base .
 
   -- ---- a piece that is no draft: freeze does what acquire does
 
-  module _ (d : s .base .states ! p ≡ 1 → ⊥) (i : ℕ) where
+  module _ (d : s .base .states ! p ≡ 1 → ⊥) (i : ℕ) (l : List ℕ) (itself : Itself (storeOn s l) (Freeze p i)) where
     no-draft : false ≡ isDraft b p
     no-draft = same-test false (isDraft b p) (λ t. absurd t) (λ t. absurd (d (unfold state in (isDraft→ b p (named .below) t .is))))
 
@@ -89,12 +91,12 @@ module _ {s : Tables} (ready : Ready s) {p : ℕ} (named : NamedPiece (s .base .
         acquires : tableVerdict b (Acquire p i) ≡ firstOf (rows (isDraft b p))
         acquires = unfold tableVerdict tableRefusals firstOf rows in refl
 
-    same-verdict : (l : List ℕ) → verdict (storeOn s l) (Freeze p i) ≡ verdict (storeOn s l) (Acquire p i)
-    same-verdict l =
-        verdict-is (storeOn s l) (Freeze p i)
+    same-verdict : verdict (storeOn s l) (Freeze p i) ≡ verdict (storeOn s l) (Acquire p i)
+    same-verdict =
+        own-verdict itself
         ∙ ap (λ (v : Verdict). andThen (seatVerdict (Freeze p i)) (andThen v (registerVerdict l (Freeze p i)))) same-by-tables
         ∙ (λ k. andThen (seat k) (andThen (tableVerdict b (Acquire p i)) (line k)))
-        ∙ sym (verdict-is (storeOn s l) (Acquire p i))
+        ∙ sym (own-verdict acquire-itself)
       where
         seat : seatVerdict (Freeze p i) ≡ seatVerdict (Acquire p i)
         seat = unfold seatVerdict seatRefusals in refl
@@ -102,12 +104,17 @@ module _ {s : Tables} (ready : Ready s) {p : ℕ} (named : NamedPiece (s .base .
         line : registerVerdict l (Freeze p i) ≡ registerVerdict l (Acquire p i)
         line = unfold registerVerdict registerRefusals in refl
 
-    same-effect : (l : List ℕ) (v : Verdict) → verdict (storeOn s l) (Acquire p i) ≡ v → effected (storeOn s l) [] (Acquire p i) v ≡ effected (storeOn s l) [] (Freeze p i) v
-    same-effect l (refused r) e = unfold effected refusedBy in refl
-    same-effect l accepted e = unfold effected nextStore in (λ k. effect (reply k) (storeOn (tables k) (line k)) (nothing k))
+    -- the store after either
+    next-of : (c : Command) → Itself (storeOn s l) c → nextStore (storeOn s l) c ≡ storeOn (nextTables s c) (noted l c)
+    unfolding nextStore
+    next-of c x = ap (λ (e : Command). storeOn (nextTables s e) (noted l e)) (x .is)
+
+    same-effect : (v : Verdict) → verdict (storeOn s l) (Acquire p i) ≡ v → effected (storeOn s l) [] (Acquire p i) v ≡ effected (storeOn s l) [] (Freeze p i) v
+    same-effect (refused r) e = unfold effected refusedBy in refl
+    same-effect accepted e = unfold effected in (λ k. effect (reply k) (store k) (nothing k))
       where
         ps : Passes b (Acquire p i)
-        ps = passes b (Acquire p i) (all-accept e .tables)
+        ps = passes b (Acquire p i) (subst (λ (c : Command). tableVerdict b c ≡ accepted) (acquire-itself {s = storeOn s l} .is) (all-accept e .tables))
 
         frozen : T (isFrozen b p)
         frozen = →isFrozen b p (live-frozen b p (wells-of s ready p (named .below)) (unfold tableRefusals applies in (not-by ps Free)) (unfold tableRefusals applies in (not-by ps State)))
@@ -120,6 +127,9 @@ module _ {s : Tables} (ready : Ready s) {p : ℕ} (named : NamedPiece (s .base .
 
         line : noted l (Acquire p i) ≡ noted l (Freeze p i)
         line = unfold noted in refl
+
+        store : nextStore (storeOn s l) (Acquire p i) ≡ nextStore (storeOn s l) (Freeze p i)
+        store = next-of (Acquire p i) acquire-itself ∙ (λ k. storeOn (tables k) (line k)) ∙ sym (next-of (Freeze p i) itself)
 
         nothing : listing (freedBy b (Acquire p i)) [] ≡ listing (freedBy b (Freeze p i)) []
         nothing = unfold freedBy settles in refl
@@ -134,7 +144,7 @@ module _ {n p seat : ℕ} {states links leaders holds counts register : List ℕ
       (effect (answered (Refused Register)) (storeOf n states links leaders holds counts register) [])
   unfolding noLine
   freeze-crowded {r} is none said =
-      refused-line freeze-adds sits (draft-accepted (ready-tables ready) named is seat) (none-said r (noLine register seat p) none said)
+      refused-line freeze-adds (draft-itself ready is) sits (draft-accepted (ready-tables ready) named is seat) (none-said r (noLine register seat p) none said)
 
   -- a draft that is frozen
   pub freeze-did : {r : Bool} {states′ leaders′ holds′ counts′ register′ : List ℕ} {a : Answer} → states ! p ≡ 1
@@ -147,16 +157,18 @@ module _ {n p seat : ℕ} {states links leaders holds counts register : List ℕ
   freeze-did {r} {states′} {leaders′} {holds′} {counts′} is room said same more answers = record {
     exact =
         (λ k. effect (answered (answers k)) (storeOn (tablesOf n states′ links leaders′ holds′ counts′) (more k)) [])
-        ∙ done-more freeze-adds sits (room-said r (noLine register seat p) room said) (any-freeze (draft-did (ready-tables ready) named is same)) refl .exact;
+        ∙ done-more freeze-adds (draft-itself ready is) sits (room-said r (noLine register seat p) room said) (any-freeze (draft-did (ready-tables ready) named is same)) refl .exact;
   }
 
-  -- any other piece
-  pub again-did : {o : Effect} → (states ! p ≡ 1 → ⊥) → Did (Acquire p seat) (storeOf n states links leaders holds counts register) [] o
+  -- any other piece, which the seat does not hold
+  pub acquire-did : {o : Effect} → (states ! p ≡ 1 → ⊥) → heldBy register seat p ≡ 0
+      → Did (Acquire p seat) (storeOf n states links leaders holds counts register) [] o
       → Did (Freeze p seat) (storeOf n states links leaders holds counts register) [] o
   unfolding effectOf
-  again-did d x = record {
+  acquire-did d none x = record {
     exact =
         x .exact
-        ∙ same-effect (ready-tables ready) named d seat register (verdict (storeOf n states links leaders holds counts register) (Acquire p seat)) refl
-        ∙ ap (effected (storeOf n states links leaders holds counts register) [] (Freeze p seat)) (sym (same-verdict (ready-tables ready) named d seat register));
+        ∙ same-effect (ready-tables ready) named d seat register (first-itself ready none) (verdict (storeOf n states links leaders holds counts register) (Acquire p seat)) refl
+        ∙ ap (effected (storeOf n states links leaders holds counts register) [] (Freeze p seat))
+        (sym (same-verdict (ready-tables ready) named d seat register (first-itself ready none)));
   }

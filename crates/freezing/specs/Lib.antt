@@ -4,4 +4,5 @@ pub mod Lone
 pub mod Counted
 pub mod Frozen
 pub mod Whole
+pub mod Twice
 pub mod Again

@@ -87,7 +87,7 @@ fn freeze_draft(
     wipe(n, work, p, alone);
 }
 
-// P and every draft it reaches become frozen; P gets one hold of the seat's. If P is frozen already it only gets one more.
+// P and every draft it reaches become frozen; P gets one hold of the seat's. If P is frozen already it gets one where the seat has none, and else nothing changes.
 pub fn freeze(
     n: usize,
     states: &mut [u8],
@@ -121,6 +121,10 @@ pub fn freeze(
         }
         freeze_draft(n, states, links, leaders, holds, counts, work, q);
         register::more(register, line, seat, p);
+        return Store::fresh();
+    }
+    let own = register::find(register, seat, p);
+    if register::number_at(register, own, seat, p) != 0 {
         return Store::fresh();
     }
     holding::acquire(n, states, leaders, holds, counts, register, p, seat)

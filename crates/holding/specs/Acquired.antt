@@ -19,7 +19,7 @@ use Rattle.rules.specs.declared.Answer.{Answer}
 use Rattle.rules.specs.declared.Answer.the-variants.{Refused}
 use Rattle.laws.specs.Numbers.{lt-or}
 use Rattle.laws.specs.Calls.{ready-tables}
-use Rattle.laws.specs.Seated.{acquire-adds, any-acquire, refused-line, done-more}
+use Rattle.laws.specs.Seated.{acquire-adds, acquire-itself, any-acquire, refused-line, done-more}
 use Rattle.naming.specs.Told.{NamedPiece}
 use Rattle.register.specs.Room.{Room}
 use Rattle.register.specs.Kept.{right-ranged}
@@ -92,7 +92,7 @@ module _ {n p seat : ℕ} {states links leaders holds counts register : List ℕ
       (effect (answered (Refused Register)) (storeOf n states links leaders holds counts register) [])
   unfolding noLine
   crowded {r} few none said =
-      refused-line acquire-adds sits (acquire-accepted (ready-tables ready) named other few seat) (none-said r (noLine register seat p) none said)
+      refused-line acquire-adds acquire-itself sits (acquire-accepted (ready-tables ready) named other few seat) (none-said r (noLine register seat p) none said)
 
   pub acquired-did : {r : Bool} {holds′ counts′ register′ : List ℕ} {a : Answer} → holds ! p < 1000
       → not r ≡ false → r ≡ not (eqb (heldBy register seat p) 0 & isFull register)
@@ -103,5 +103,5 @@ module _ {n p seat : ℕ} {states links leaders holds counts register : List ℕ
   acquired-did {r} few room said both more is = record {
     exact =
         (λ k. effect (answered (is k)) (storeOf n states links leaders (both .0 k) (both .1 k) (more k)) [])
-        ∙ done-more acquire-adds sits (room-said r (noLine register seat p) room said) (any-acquire (acquired (ready-tables ready) named other few refl)) refl .exact;
+        ∙ done-more acquire-adds acquire-itself sits (room-said r (noLine register seat p) room said) (any-acquire (acquired (ready-tables ready) named other few refl)) refl .exact;
   }

@@ -8,12 +8,11 @@ use native.Mathlib.Omega.{arith}
 use lib.Dec.{T, T-not, eqb, eqb→eq}
 use lib.ListN.{getD, set}
 use lib.Seq.{getD-set-same, getD-set-other}
-use Rattle.rules.specs.Tests.{_or_, pick, onlyIf}
+use Rattle.rules.specs.Tests.{_or_, _&_, pick, onlyIf}
 use Rattle.rules.specs.Reach.{here}
 use Rattle.rules.specs.Tables.{Base, isFree, isFrozen, holdsOf, isKept}
 use Rattle.rules.specs.Words.{SizedBase}
-use Rattle.rules.specs.Commands.{notHeld, tableRefusals, withStates, withLinks, withHolds, oneMore, oneLess, freeAll, gone, freezeFirst, edit, settles, after}
-use Rattle.rules.specs.History.{addsTo, takesFrom}
+use Rattle.rules.specs.Commands.{pieceOf, isFreeze, isAcquire, isRelease, notHeld, tableRefusals, withStates, withLinks, withHolds, oneMore, oneLess, freeAll, gone, freezeFirst, edit, settles, after}
 use Rattle.rules.specs.declared.Refusal.the-variants.{Number, Free, State, NotHeld}
 use Rattle.rules.specs.declared.Command.{Command}
 use Rattle.rules.specs.declared.Command.the-variants.{New, Set, Freeze, Acquire, Release, Bin, Look}
@@ -24,6 +23,14 @@ use Rattle.laws.specs.Sound.{Good}
 use Rattle.laws.specs.Settle.{holds-freeAll}
 use Rattle.laws.specs.Passes.{applies, Passes, not-by, draft-of, live-draft}
 use Rattle.laws.specs.Commands.{below-of, edit-n}
+
+-- by the tables a freeze or an acquire naming p adds a hold
+unfoldable pub addsTo : ℕ → Command → Bool
+addsTo p c = (isFreeze c or isAcquire c) & eqb (pieceOf c) p
+
+-- and a release naming p takes one
+unfoldable pub takesFrom : ℕ → Command → Bool
+takesFrom p c = isRelease c & eqb (pieceOf c) p
 
 module _ (b : Base) (z : SizedBase b) (g : Good b) where
   -- the holds of p where those of q became v

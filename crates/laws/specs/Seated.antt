@@ -6,7 +6,7 @@ use Prim.Native.Nat.{ℕ, _≤_, _<_}
 use native.Mathlib.Omega.{arith}
 use lib.Dec.{T, T-not, not-T, ltb, ltb→lt, lt→ltb}
 use Rattle.rules.specs.Register.{heldBy, oneMoreBy, oneLessBy}
-use Rattle.rules.specs.Tables.{Base, Tables, storeOn}
+use Rattle.rules.specs.Tables.{Base, Tables, Store, storeOn}
 use Rattle.rules.specs.Commands.{namesSeat, Verdict, accepted, refused, firstOf, noSeat, noLine, notYours, seatRefusals, tableRefusals, registerRefusals}
 use Rattle.rules.specs.Commands.{edit, settles, freedBy, after, valueOf, noted, nextTables}
 use Rattle.rules.specs.Calls.{Reply, answered, effect, refusedBy, acceptedBy, doneBy, listing, Did}
@@ -19,7 +19,7 @@ use Rattle.laws.specs.Words.{eqb-of, neqb-of}
 use Rattle.laws.specs.Passes.{tableVerdict}
 use Rattle.laws.specs.Rows.{first-at, first-none}
 use Rattle.laws.specs.ByTables.{TablesEffect, tablesEffect, tablesEffected, DidTables}
-use Rattle.laws.specs.Verdicts.{seatVerdict, registerVerdict, seat-refused, tables-refused, register-refused, all-did}
+use Rattle.laws.specs.Verdicts.{seatVerdict, registerVerdict, seat-refused, tables-refused, register-refused, all-did, Itself, not-again}
 
 -- ---- by the tables every seat is alike
 
@@ -139,6 +139,13 @@ module _ {p i : ℕ} where
   unfolding seatRefusals registerRefusals noted
   release-takes = record { seat = record { names = refl; row = refl }; row = λ l. refl; notes = λ l. refl }
 
+-- acquire and release are themselves
+pub acquire-itself : {s : Store} {p i : ℕ} → Itself s (Acquire p i)
+acquire-itself {s} {p} {i} = not-again s (Acquire p i) refl
+
+pub release-itself : {s : Store} {p i : ℕ} → Itself s (Release p i)
+release-itself {s} {p} {i} = not-again s (Release p i) refl
+
 -- ---- what such a command did to the store
 
 passed-seat : {c : Command} {i : ℕ} → BySeat c i → i < 32 → seatVerdict c ≡ accepted
@@ -154,22 +161,22 @@ module _ {c : Command} {i : ℕ} {t : Tables} {l register : List ℕ} (m : BySea
   pub refused-seat : 32 ≤ i → Did c (storeOn t register) l (effect (answered (Refused Seat)) (storeOn t register) l)
   refused-seat h = answered-so (seat-refused (unfold seatVerdict in (ap firstOf (m .row) ∙ row-given (noSeat i) Seat (not-T (ltb i 32) (λ t. omega (arith, ltb→lt i 32 t))))))
 
-  module _ (h : i < 32) where
+  module _ (same : Itself (storeOn t register) c) (h : i < 32) where
     -- by the tables
     pub refused-tables : {r : Refusal} → DidTables c t l (tablesEffect (answered (Refused r)) t l)
         → Did c (storeOn t register) l (effect (answered (Refused r)) (storeOn t register) l)
-    refused-tables d = answered-so (tables-refused (passed-seat m h) (told-refused c (m .names) t l d))
+    refused-tables d = answered-so (tables-refused same (passed-seat m h) (told-refused c (m .names) t l d))
 
     -- by the register
     refused-last : {r : Refusal} → tableVerdict (t .base) c ≡ accepted → registerVerdict register c ≡ refused r
         → Did c (storeOn t register) l (effect (answered (Refused r)) (storeOn t register) l)
-    refused-last tables e = answered-so (register-refused (passed-seat m h) tables e)
+    refused-last tables e = answered-so (register-refused same (passed-seat m h) tables e)
 
     -- by none of them
     done-seated : {v f : ℕ} {t′ : Tables} {l′ register′ : List ℕ} → registerVerdict register c ≡ accepted
         → DidTables c t l (tablesEffect (answered (Done v f)) t′ l′) → register′ ≡ noted register c
         → Did c (storeOn t register) l (effect (answered (Done v f)) (storeOn t′ register′) l′)
-    done-seated {v} {f} {t′} {l′} {register′} last d e = record { exact = both ∙ all-did (passed-seat m h) tables last .exact }
+    done-seated {v} {f} {t′} {l′} {register′} last d e = record { exact = both ∙ all-did same (passed-seat m h) tables last .exact }
       where
         tables : tableVerdict (t .base) c ≡ accepted
         tables = told-accepted c (m .names) t l d
@@ -185,11 +192,11 @@ module _ {c : Command} {i : ℕ} {t : Tables} {l register : List ℕ} (m : BySea
         both = λ k. effect (work k .reply) (storeOn (work k .tables) (e k)) (work k .list)
 
 -- one hold more: where a line is needed and none is free, the register refuses
-module _ {c : Command} {i p : ℕ} {t : Tables} {l register : List ℕ} (m : Adds c i p) (h : i < 32) where
+module _ {c : Command} {i p : ℕ} {t : Tables} {l register : List ℕ} (m : Adds c i p) (same : Itself (storeOn t register) c) (h : i < 32) where
   pub refused-line : tableVerdict (t .base) c ≡ accepted → false ≡ not (noLine register i p)
       → Did c (storeOn t register) l (effect (answered (Refused Register)) (storeOn t register) l)
   refused-line tables e =
-      refused-last (m .seat) h tables (unfold registerVerdict in (ap firstOf (m .row register) ∙ row-given (noLine register i p) Register (go (noLine register i p) e)))
+      refused-last (m .seat) same h tables (unfold registerVerdict in (ap firstOf (m .row register) ∙ row-given (noLine register i p) Register (go (noLine register i p) e)))
     where
       go : (b : Bool) → false ≡ not b → T b
       go true e = tt
@@ -199,21 +206,21 @@ module _ {c : Command} {i p : ℕ} {t : Tables} {l register : List ℕ} (m : Add
       → DidTables c t l (tablesEffect (answered (Done v f)) t′ l′) → register′ ≡ oneMoreBy register i p
       → Did c (storeOn t register) l (effect (answered (Done v f)) (storeOn t′ register′) l′)
   done-more e d new =
-      done-seated (m .seat) h (unfold registerVerdict in (ap firstOf (m .row register) ∙ row-passed (noLine register i p) Register (subst T e tt)))
+      done-seated (m .seat) same h (unfold registerVerdict in (ap firstOf (m .row register) ∙ row-passed (noLine register i p) Register (subst T e tt)))
       d (new ∙ sym (m .notes register))
 
 -- one hold less: where the seat has none, the register refuses
-module _ {c : Command} {i p : ℕ} {t : Tables} {l register : List ℕ} (m : Takes c i p) (h : i < 32) where
+module _ {c : Command} {i p : ℕ} {t : Tables} {l register : List ℕ} (m : Takes c i p) (same : Itself (storeOn t register) c) (h : i < 32) where
   pub refused-yours : tableVerdict (t .base) c ≡ accepted → heldBy register i p ≡ 0
       → Did c (storeOn t register) l (effect (answered (Refused NotYours)) (storeOn t register) l)
   refused-yours tables e =
-      refused-last (m .seat) h tables
+      refused-last (m .seat) same h tables
       (unfold registerVerdict in (ap firstOf (m .row register) ∙ row-given (notYours register i p) NotYours (unfold notYours in (eqb-of e))))
 
   pub done-less : {v f : ℕ} {t′ : Tables} {l′ register′ : List ℕ} → (heldBy register i p ≡ 0 → ⊥)
       → DidTables c t l (tablesEffect (answered (Done v f)) t′ l′) → register′ ≡ oneLessBy register i p
       → Did c (storeOn t register) l (effect (answered (Done v f)) (storeOn t′ register′) l′)
   done-less some d new =
-      done-seated (m .seat) h
+      done-seated (m .seat) same h
       (unfold registerVerdict in (ap firstOf (m .row register) ∙ row-passed (notYours register i p) NotYours (unfold notYours in (neqb-of some))))
       d (new ∙ sym (m .notes register))

@@ -4,11 +4,13 @@ use mathlib.Core.Bool.{Bool, true, false, not}
 use mathlib.Core.List.{List, [], _∷_, _++_}
 use Prim.Native.Nat.{ℕ}
 use native.Mathlib.Omega.{arith}
-use lib.Dec.{T}
+use lib.Dec.{T, not-T, ltb}
 use lib.ListN.{length, drop}
-use Rattle.rules.specs.Tests.{pick}
-use Rattle.rules.specs.Tables.{Base, Tables, Store, storeOn}
-use Rattle.rules.specs.Commands.{namesSeat, Verdict, accepted, refused, firstOf, seatRefusals, tableRefusals, registerRefusals, refusals, verdict}
+use Rattle.rules.specs.Tests.{_or_, _&_, pick}
+use Rattle.rules.specs.Register.{heldBy}
+use Rattle.rules.specs.Tables.{Base, Tables, Store, storeOn, isFrozen}
+use Rattle.rules.specs.Commands.{isFreeze, isAcquire, isRelease, pieceOf, seatOf, namesSeat, isAgain, meant}
+use Rattle.rules.specs.Commands.{Verdict, accepted, refused, firstOf, seatRefusals, tableRefusals, registerRefusals, refusals, verdict}
 use Rattle.rules.specs.Commands.{edit, settles, freedBy, goneList, noted, nextTables, nextStore}
 use Rattle.rules.specs.Calls.{Reply, Effect, effect, effected, effectOf, refusedBy, acceptedBy, listing, Did}
 use Rattle.rules.specs.declared.Refusal.{Refusal}
@@ -16,6 +18,7 @@ use Rattle.rules.specs.declared.Refusal.the-variants.{Seat, Number, Place, Targ
 use Rattle.rules.specs.declared.Command.{Command}
 use Rattle.rules.specs.declared.Command.the-variants.{New, Set, Freeze, Acquire, Release, Bin, Look}
 use Rattle.laws.specs.Passes.{applies, tableVerdict}
+use Rattle.laws.specs.Below.{pick-false}
 use Rattle.laws.specs.Rows.{andThen, first-append, then-accepted, both-accepted}
 use Rattle.laws.specs.ByTables.{TablesEffect, tablesEffect, tablesEffected, DidTables}
 
@@ -31,29 +34,58 @@ registerVerdict l c = firstOf (registerRefusals l c)
 
 -- the first that refuses is given
 pub verdict-is : (s : Store) (c : Command)
-    → verdict s c ≡ andThen (seatVerdict c) (andThen (tableVerdict (s .tables .base) c) (registerVerdict (s .register) c))
+    → verdict s c ≡ andThen (seatVerdict c) (andThen (tableVerdict (s .tables .base) (meant s c)) (registerVerdict (s .register) (meant s c)))
 unfolding verdict refusals seatVerdict tableVerdict registerVerdict
 verdict-is s c =
-    first-append (seatRefusals c) (tableRefusals (s .tables .base) c ++ registerRefusals (s .register) c)
-    ∙ ap (andThen (firstOf (seatRefusals c))) (first-append (tableRefusals (s .tables .base) c) (registerRefusals (s .register) c))
+    first-append (seatRefusals c) (tableRefusals (s .tables .base) (meant s c) ++ registerRefusals (s .register) (meant s c))
+    ∙ ap (andThen (firstOf (seatRefusals c))) (first-append (tableRefusals (s .tables .base) (meant s c)) (registerRefusals (s .register) (meant s c)))
+
+-- a command that is no second hand-in comes to itself
+pub record Itself (s : Store) (c : Command) : Type 0 where
+  pub is : meant s c ≡ c
+
+pub own-verdict : {s : Store} {c : Command} → Itself s c
+    → verdict s c ≡ andThen (seatVerdict c) (andThen (tableVerdict (s .tables .base) c) (registerVerdict (s .register) c))
+own-verdict {s} {c} same =
+    verdict-is s c ∙ ap (λ (d : Command). andThen (seatVerdict c) (andThen (tableVerdict (s .tables .base) d) (registerVerdict (s .register) d))) (same .is)
 
 -- an accepted command is accepted by all three
 pub record AllAccept (s : Store) (c : Command) : Type 0 where
   pub seat : seatVerdict c ≡ accepted
-  pub tables : tableVerdict (s .tables .base) c ≡ accepted
-  pub register : registerVerdict (s .register) c ≡ accepted
+  pub tables : tableVerdict (s .tables .base) (meant s c) ≡ accepted
+  pub register : registerVerdict (s .register) (meant s c) ≡ accepted
 
 pub all-accept : {s : Store} {c : Command} → verdict s c ≡ accepted → AllAccept s c
 all-accept {s} {c} e =
     let x = both-accepted (seatVerdict c) _ (sym (verdict-is s c) ∙ e) in
-    let y = both-accepted (tableVerdict (s .tables .base) c) (registerVerdict (s .register) c) (x .1) in
+    let y = both-accepted (tableVerdict (s .tables .base) (meant s c)) (registerVerdict (s .register) (meant s c)) (x .1) in
     record { seat = x .0; tables = y .0; register = y .1 }
+
+-- ---- which commands are themselves
+
+pub itself-by : (s : Store) (c : Command) → (T (isAgain s c) → ⊥) → Itself s c
+unfolding meant
+itself-by s c never = record { is = pick-false (isAgain s c) (Look (pieceOf c)) c (not-T (isAgain s c) never) }
+
+-- all but freeze
+pub not-again : (s : Store) (c : Command) → isFreeze c ≡ false → Itself s c
+unfolding meant isAgain
+not-again s c e = record {
+  is = ap (λ (b : Bool). pick (b & (isFrozen (s .tables .base) (pieceOf c) & ltb 0 (heldBy (s .register) (seatOf c) (pieceOf c)))) (Look (pieceOf c)) c) e;
+}
 
 -- ---- a command that names no seat
 
+bare-itself : (s : Store) (c : Command) → namesSeat c ≡ false → Itself s c
+bare-itself s c e = not-again s c (first (isFreeze c) (isAcquire c or isRelease c) e)
+  where
+    first : (a b : Bool) → (a or b) ≡ false → a ≡ false
+    first true b e = e
+    first false b e = refl
+
 -- is judged by the tables alone
 pub bare-verdict : (s : Store) (c : Command) → namesSeat c ≡ false → verdict s c ≡ tableVerdict (s .tables .base) c
-bare-verdict s c e = verdict-is s c ∙ go c e
+bare-verdict s c e = own-verdict (bare-itself s c e) ∙ go c e
   where
     after : (c : Command) → seatVerdict c ≡ accepted → registerVerdict (s .register) c ≡ accepted
         → andThen (seatVerdict c) (andThen (tableVerdict (s .tables .base) c) (registerVerdict (s .register) c)) ≡ tableVerdict (s .tables .base) c
@@ -96,7 +128,8 @@ bare-did {c} {t} {t′} {l} {l′} {register} {a} e d = record {
     go : (v : Verdict) → effect (tablesEffected t l c v .reply) (storeOn (tablesEffected t l c v .tables) register) (tablesEffected t l c v .list)
         ≡ effected (storeOn t register) l c v
     go accepted = unfold tablesEffected effected nextStore in
-        (ap (λ (x : List ℕ). effect (acceptedBy t c) (storeOn (nextTables t c) x) (listing (freedBy (t .base) c) l)) (sym (bare-noted register c e)))
+        (ap (λ (x : List ℕ). effect (acceptedBy t c) (storeOn (nextTables t c) x) (listing (freedBy (t .base) c) l)) (sym (bare-noted register c e))
+        ∙ ap (λ (d : Command). effect (acceptedBy t c) (storeOn (nextTables t d) (noted register d)) (listing (freedBy (t .base) c) l)) (sym (bare-itself (storeOn t register) c e .is)))
     go (refused r) = unfold tablesEffected effected in refl
 
 -- ---- a command that names a seat
@@ -111,21 +144,22 @@ module _ {c : Command} {t : Tables} {l register : List ℕ} where
   seat-refused {r} e =
       did-refused-by c (storeOn t register) l r
       (verdict-is (storeOn t register) c
-      ∙ ap (λ (v : Verdict). andThen v (andThen (tableVerdict (t .base) c) (registerVerdict register c))) e ∙ (unfold andThen in refl))
+      ∙ ap (λ (v : Verdict). andThen v (andThen (tableVerdict (t .base) (meant (storeOn t register) c)) (registerVerdict register (meant (storeOn t register) c)))) e
+      ∙ (unfold andThen in refl))
 
-  module _ (seat : seatVerdict c ≡ accepted) where
+  module _ (same : Itself (storeOn t register) c) (seat : seatVerdict c ≡ accepted) where
     -- by the tables
     pub tables-refused : {r : Refusal} → tableVerdict (t .base) c ≡ refused r → Did c (storeOn t register) l (effect (refusedBy r c) (storeOn t register) l)
     tables-refused {r} e =
         did-refused-by c (storeOn t register) l r
-        (verdict-is (storeOn t register) c ∙ (λ i. andThen (seat i) (andThen (e i) (registerVerdict register c))) ∙ (unfold andThen in refl))
+        (own-verdict same ∙ (λ i. andThen (seat i) (andThen (e i) (registerVerdict register c))) ∙ (unfold andThen in refl))
 
     module _ (tables : tableVerdict (t .base) c ≡ accepted) where
       -- by the register
       pub register-refused : {r : Refusal} → registerVerdict register c ≡ refused r → Did c (storeOn t register) l (effect (refusedBy r c) (storeOn t register) l)
       register-refused {r} e =
           did-refused-by c (storeOn t register) l r
-          (verdict-is (storeOn t register) c ∙ (λ i. andThen (seat i) (andThen (tables i) (e i))) ∙ (unfold andThen in refl))
+          (own-verdict same ∙ (λ i. andThen (seat i) (andThen (tables i) (e i))) ∙ (unfold andThen in refl))
 
       -- or by none of them
       pub all-did : registerVerdict register c ≡ accepted
@@ -135,11 +169,12 @@ module _ {c : Command} {t : Tables} {l register : List ℕ} where
         exact =
             done
             ∙ ap (effected (storeOn t register) l c)
-            (sym (verdict-is (storeOn t register) c ∙ (λ i. andThen (seat i) (andThen (tables i) (e i))) ∙ (unfold andThen in refl)));
+            (sym (own-verdict same ∙ (λ i. andThen (seat i) (andThen (tables i) (e i))) ∙ (unfold andThen in refl)));
       }
         where
           done : effect (acceptedBy t c) (storeOn (nextTables t c) (noted register c)) (listing (freedBy (t .base) c) l) ≡ effected (storeOn t register) l c accepted
-          done = unfold effected nextStore in refl
+          done = unfold effected nextStore in
+              (ap (λ (d : Command). effect (acceptedBy t c) (storeOn (nextTables t d) (noted register d)) (listing (freedBy (t .base) c) l)) (sym (same .is)))
 
 -- ---- the table's order
 
@@ -154,10 +189,15 @@ table = Seat ∷ Number ∷ Place ∷ Target ∷ Free ∷ FreeTarget ∷ State �
 
 -- the refusals of every command follow the table's order: going down the table gives the same verdict
 pub by-table : (s : Store) (c : Command) → verdict s c ≡ firstOf (inOrder table (refusals s c))
-unfolding verdict firstOf refusals seatRefusals tableRefusals registerRefusals inOrder applies
+unfolding verdict firstOf refusals seatRefusals tableRefusals registerRefusals inOrder applies meant isAgain
 by-table s New = refl
 by-table s (Set p k t) = refl
-by-table s (Freeze p i) = refl
+by-table s (Freeze p i) = go (isFrozen (s .tables .base) p & ltb 0 (heldBy (s .register) i p))
+  where
+    go : (b : Bool) → firstOf (seatRefusals (Freeze p i) ++ (tableRefusals (s .tables .base) (pick b (Look p) (Freeze p i)) ++ registerRefusals (s .register) (pick b (Look p) (Freeze p i))))
+        ≡ firstOf (inOrder table (seatRefusals (Freeze p i) ++ (tableRefusals (s .tables .base) (pick b (Look p) (Freeze p i)) ++ registerRefusals (s .register) (pick b (Look p) (Freeze p i)))))
+    go true = refl
+    go false = refl
 by-table s (Acquire p i) = refl
 by-table s (Release p i) = refl
 by-table s (Bin p) = refl

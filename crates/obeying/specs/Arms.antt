@@ -5,7 +5,7 @@ use mathlib.Core.List.{List, []}
 use Prim.Native.Nat.{ℕ, _≤_}
 use native.Mathlib.Omega.{arith}
 use Rattle.rules.specs.Tables.{Store, finish}
-use Rattle.rules.specs.Commands.{Verdict, accepted, refused, verdict, settles, nextTables, nextStore, settled, stepTo}
+use Rattle.rules.specs.Commands.{Verdict, accepted, refused, verdict, settles, meant, nextTables, nextStore, settled, stepTo}
 use Rattle.rules.specs.Calls.{Reply, answered, Effect, effect, effected, effectOf, ReadyStore, Clear, Did}
 use Rattle.rules.specs.declared.Command.{Command}
 use Rattle.rules.specs.declared.Command.the-variants.{New, Set, Freeze, Acquire, Release, Bin, Look}
@@ -42,7 +42,7 @@ ready-after s r c = record {
     ok = step-ok s c (record { sized = r .sized; sound = r .sound })
 
     size : (v : Verdict) → settled v s c .tables .base .n ≡ s .tables .base .n
-    size accepted = unfold settled nextStore nextTables finish in (after-n (s .tables .base) (r .sized .tables .base) (good-of (s .tables) (ready-tables r)) c)
+    size accepted = unfold settled nextStore nextTables finish in (after-n (s .tables .base) (r .sized .tables .base) (good-of (s .tables) (ready-tables r)) (meant s c))
     size (refused x) = unfold settled in refl
 
 -- a draft is binned

@@ -11,7 +11,7 @@ use lib.Seq.{getD-set-same, getD-set-other}
 use Rattle.rules.specs.Lists.{Among, Ascending, more}
 use Rattle.rules.specs.Tables.{Base, Store, state, isFree, finish}
 use Rattle.rules.specs.Words.{Live, Well, wfree, wdraft, wfrozen}
-use Rattle.rules.specs.Commands.{Verdict, accepted, refused, verdict, firstFree, withStates, edit, settles, freedBy, after, valueOf, nextTables, nextStore}
+use Rattle.rules.specs.Commands.{Verdict, accepted, refused, verdict, firstFree, withStates, edit, settles, freedBy, after, valueOf, isAgain, meant, nextTables, nextStore}
 use Rattle.rules.specs.Calls.{Reply, answered, Effect, effect, effected, effectOf, refusedBy, acceptedBy, doneBy, listing, ReadyStore, Did}
 use Rattle.rules.specs.History.{isAccepted, freedIn}
 use Rattle.rules.specs.declared.Command.{Command}
@@ -24,6 +24,7 @@ use Rattle.laws.specs.Passes.{Passes, passes}
 use Rattle.laws.specs.Commands.{first-free}
 use Rattle.laws.specs.Verdicts.{all-accept}
 use Rattle.laws.specs.Calls.{ready-tables}
+use Rattle.demands.specs.Meant.{accepts-other, freed-meant, bin-meant}
 use Rattle.demands.specs.Demand3.{ascending-freed}
 use Rattle.laws.specs.Freed.{alone}
 use Rattle.tallies.specs.Stores.{good-of}
@@ -61,12 +62,12 @@ module _ {s : Store} {l w : List ℕ} {from : ℕ} (stands : Stands (s .tables .
       go (wfrozen x) = inr (record { below = below; is = x .is })
 
   -- an accepted command frees what it lists and what it bins
-  accepted-none : (c : Command) (r : ℕ) → Passes (s .tables .base) c → r ≤ from
+  accepted-none : (c : Command) (r : ℕ) → Passes (s .tables .base) (meant s c) → r ≤ from
       → (0 < length (freedBy (s .tables .base) c) → r ≤ getD (listing (freedBy (s .tables .base) c) l) 0 0)
       → ((p : ℕ) → c ≡ Bin p → r ≤ p) → NoneFree (nextStore s c .tables .base .states) r
   accepted-none c r passed most first binned q h z =
-      ⊎-elim listed (λ e. let k = binned q e in omega arith)
-      (alone (s .tables .base) (ready .sized .tables .base) (good-of (s .tables) (ready-tables ready)) c passed q .0 (live-of q (omega arith), unfold nextStore nextTables finish state in z))
+      ⊎-elim (λ m. listed (subst (Among q) (freed-meant s c (s .tables .base)) m)) (λ e. let k = binned q (bin-meant s c e) in omega arith)
+      (alone (s .tables .base) (ready .sized .tables .base) (good-of (s .tables) (ready-tables ready)) (meant s c) passed q .0 (live-of q (omega arith), unfold nextStore nextTables finish state in z))
     where
       ready : ReadyStore s
       ready = stands .ready
@@ -92,7 +93,7 @@ module _ {s : Store} {l w : List ℕ} {from : ℕ} (stands : Stands (s .tables .
   none-by : (c : Command) (r : ℕ) → r ≤ from → (v : Verdict) → verdict s c ≡ v → Below c r (effected s l c v)
   unfolding effected
   none-by c r most accepted e first binned =
-      accepted-none c r (passes (s .tables .base) c (all-accept e .tables)) most (λ h. first (omega (arith, accepted-freed (s .tables) c)))
+      accepted-none c r (passes (s .tables .base) (meant s c) (all-accept e .tables)) most (λ h. first (omega (arith, accepted-freed (s .tables) c)))
       (λ p x. binned p x (bin-accepted c p x))
   none-by c r most (refused x) e first binned = λ q h z. stands .none q (omega arith) z
 
@@ -123,7 +124,7 @@ module _ {s : Store} {l w : List ℕ} {from : ℕ} (stands : Stands (s .tables .
       none-free q h z = go (ℕ-discrete q (firstFree b))
         where
           at : getD (set (b .states) (firstFree b) 1) q 0 ≡ 0
-          at = unfold nextStore nextTables finish after settles edit withStates in z
+          at = unfold nextStore meant isAgain nextTables finish after settles edit withStates in z
 
           go : Dec (q ≡ firstFree b) → ⊥
           go (yes e) =
@@ -138,7 +139,7 @@ module _ {s : Store} {l w : List ℕ} {from : ℕ} (stands : Stands (s .tables .
   unfolding effected acceptedBy refusedBy
   new-by l₀ accepted e a y =
       let x : doneBy (s .tables .base) New ≡ a = cc y in
-      subst (λ (d : Answer). Above d (nextStore s New)) x (given-none (passes (s .tables .base) New (all-accept e .tables)))
+      subst (λ (d : Answer). Above d (nextStore s New)) x (given-none (passes (s .tables .base) New (accepts-other refl e .tables)))
   new-by l₀ (refused r) e a y = let x : Refused r ≡ a = cc y in subst (λ (d : Answer). Above d s) x (stands .small, stands .none)
 
   pub new-none : {a : Answer} {s′ : Store} {l₀ l′ : List ℕ} → Did New s l₀ (effect (answered a) s′ l′) → Above a s′

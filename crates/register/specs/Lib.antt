@@ -3,6 +3,7 @@ pub mod Order
 pub mod Adds
 pub mod Totals
 pub mod Pairs
+pub mod Seats
 pub mod Found
 pub mod Has
 pub mod Halves

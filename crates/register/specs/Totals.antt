@@ -22,17 +22,17 @@ module _ (f : ℕ → ℕ → Bool) (l : List ℕ) where
   chosen b c x y e = ap (λ (a : Bool). pick a x y) e
 
   -- an unused line ends the sum
-  total-ends : (i k : ℕ) → numberAt l i ≡ 0 → totalFrom f l i k ≡ 0
+  pub total-ends : (i k : ℕ) → numberAt l i ≡ 0 → totalFrom f l i k ≡ 0
   unfolding totalFrom
   total-ends i zero e = refl
   total-ends i (suc k) e = chosen (eqb (numberAt l i) 0) true 0 (adds f l i + totalFrom f l (suc i) k) (eq-eqb (numberAt l i) 0 e)
 
   -- a used one adds its number
-  total-goes : (i k : ℕ) → (numberAt l i ≡ 0 → ⊥) → totalFrom f l i (suc k) ≡ adds f l i + totalFrom f l (suc i) k
+  pub total-goes : (i k : ℕ) → (numberAt l i ≡ 0 → ⊥) → totalFrom f l i (suc k) ≡ adds f l i + totalFrom f l (suc i) k
   unfolding totalFrom
   total-goes i k d = chosen (eqb (numberAt l i) 0) false 0 (adds f l i + totalFrom f l (suc i) k) (ne-eqb (numberAt l i) 0 d)
 
-  total-none : (i : ℕ) → totalFrom f l i 0 ≡ 0
+  pub total-none : (i : ℕ) → totalFrom f l i 0 ≡ 0
   unfolding totalFrom
   total-none i = refl
 

@@ -161,9 +161,17 @@ registerRefusals l (Release p i) = (notYours l i p, NotYours) ∷ []
 registerRefusals l (Bin p) = []
 registerRefusals l (Look p) = []
 
--- the refusals of each command on a sound store, checked in this order
+-- a second hand-in: freeze of a frozen piece by a seat that holds it already
+unfoldable pub isAgain : Store → Command → Bool
+isAgain s c = isFreeze c & (isFrozen (s .tables .base) (pieceOf c) & ltb 0 (heldBy (s .register) (seatOf c) (pieceOf c)))
+
+-- what a command comes to: a second hand-in is accepted and changes nothing, as a look at the piece does; any other command is itself
+unfoldable pub meant : Store → Command → Command
+meant s c = pick (isAgain s c) (Look (pieceOf c)) c
+
+-- the refusals of each command on a sound store, checked in this order; 6 LIMIT and 14 REGISTER apply only where a hold is added
 unfoldable pub refusals : Store → Command → List (Bool × Refusal)
-refusals s c = seatRefusals c ++ (tableRefusals (s .tables .base) c ++ registerRefusals (s .register) c)
+refusals s c = seatRefusals c ++ (tableRefusals (s .tables .base) (meant s c) ++ registerRefusals (s .register) (meant s c))
 
 module _ (b : Base) where
   -- ---- what changes
@@ -258,7 +266,7 @@ noted l (Look p) = l
 
 -- the store after an accepted command
 unfoldable pub nextStore : Store → Command → Store
-nextStore s c = storeOn (nextTables (s .tables) c) (noted (s .register) c)
+nextStore s c = storeOn (nextTables (s .tables) (meant s c)) (noted (s .register) (meant s c))
 
 -- the store after a command: a refused one leaves it unchanged
 unfoldable pub settled : Verdict → Store → Command → Store

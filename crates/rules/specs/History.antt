@@ -3,14 +3,16 @@ use mathlib.Core.Path.{_≡_}
 use mathlib.Core.Logic.{_⊎_, _↔_}
 use mathlib.Core.Bool.{Bool, true, false, not}
 use mathlib.Core.List.{List, [], _∷_, _++_}
-use Prim.Native.Nat.{ℕ, _+_, _<_}
+use Prim.Native.Nat.{ℕ, _+_, _-_, _<_}
 use lib.Dec.{T, eqb}
 use lib.ListN.{length, take, drop}
 use Rattle.rules.specs.Tests.{_or_, _&_, pick, onlyIf}
+use Rattle.rules.specs.Limits.{seats}
+use Rattle.rules.specs.Below.{sum}
 use Rattle.rules.specs.Lists.{Among, Ascending}
 use Rattle.rules.specs.Tables.{Base, Store, state, emptyTables, empty}
 use Rattle.rules.specs.Words.{Draft, Frozen, Live, Reaches}
-use Rattle.rules.specs.Commands.{pieceOf, seatOf, isNew, isFreeze, isAcquire, isRelease, edit}
+use Rattle.rules.specs.Commands.{pieceOf, seatOf, isNew, isFreeze, isAcquire, isRelease, edit, meant}
 use Rattle.rules.specs.Calls.{Call, start, does, check, Areas, Reply, answered, saw, checked, Outcome, Promise}
 use Rattle.rules.specs.declared.Command.{Command}
 use Rattle.rules.specs.declared.Command.the-variants.{Bin}
@@ -45,14 +47,6 @@ pub data History (n : ℕ) : List Event → Store → Type 0 where
       → T (isAccepted (o .reply)) → History n (event c o ∷ h) (o .areas .store)
 
 -- ---- held: since the number was last given out, accepted freezes and acquires naming it outnumber accepted releases
-
--- a freeze or an acquire naming p
-unfoldable pub addsTo : ℕ → Command → Bool
-addsTo p c = (isFreeze c or isAcquire c) & eqb (pieceOf c) p
-
--- a release naming p
-unfoldable pub takesFrom : ℕ → Command → Bool
-takesFrom p c = isRelease c & eqb (pieceOf c) p
 
 -- of the calls, those of a command with f
 unfoldable pub commands : (Command → Bool) → Call → Bool
@@ -94,33 +88,38 @@ unfoldable pub often : (Event → Bool) → List Event → ℕ
 often f [] = 0
 often f (e ∷ h) = onlyIf (f e) 1 + often f h
 
-unfoldable pub added : ℕ → List Event → ℕ
-added p h = often (acceptedOf (addsTo p)) (since p h)
+-- ---- by seat
 
-unfoldable pub taken : ℕ → List Event → ℕ
-taken p h = often (acceptedOf (takesFrom p)) (since p h)
-
-abbrev pub Held : List Event → ℕ → Type 0
-Held h p = taken p h < added p h
-
--- ---- the same by seat
-
--- a freeze or an acquire of seat i naming p
-unfoldable pub addsBy : ℕ → ℕ → Command → Bool
-addsBy i p c = (isFreeze c or isAcquire c) & (eqb (seatOf c) i & eqb (pieceOf c) p)
+-- an acquire of seat i naming p, or a freeze where the seat holds none: k is what it holds so far
+unfoldable pub addsBy : ℕ → ℕ → ℕ → Command → Bool
+addsBy i p k c = (isAcquire c or isFreeze c & eqb k 0) & (eqb (seatOf c) i & eqb (pieceOf c) p)
 
 -- a release of seat i naming p
 unfoldable pub takesBy : ℕ → ℕ → Command → Bool
 takesBy i p c = isRelease c & (eqb (seatOf c) i & eqb (pieceOf c) p)
 
-unfoldable pub addedBy : ℕ → ℕ → List Event → ℕ
-addedBy i p h = often (acceptedOf (addsBy i p)) (since p h)
-
+-- the accepted releases of seat i since p was last given out
 unfoldable pub takenBy : ℕ → ℕ → List Event → ℕ
 takenBy i p h = often (acceptedOf (takesBy i p)) (since p h)
 
+-- its accepted freezes and acquires that added a hold: of the freezes those before which its own calls held none
+unfoldable pub addedBy : ℕ → ℕ → List Event → ℕ
+addedBy i p [] = 0
+addedBy i p (e ∷ h) = pick (givesOut p e or starts e) 0 (onlyIf (acceptedOf (addsBy i p (addedBy i p h - takenBy i p h)) e) 1 + addedBy i p h)
+
 abbrev pub HeldBy : List Event → ℕ → ℕ → Type 0
 HeldBy h i p = takenBy i p h < addedBy i p h
+
+-- ---- over all seats
+
+unfoldable pub added : ℕ → List Event → ℕ
+added p h = sum (λ i. addedBy i p h) seats
+
+unfoldable pub taken : ℕ → List Event → ℕ
+taken p h = sum (λ i. takenBy i p h) seats
+
+abbrev pub Held : List Event → ℕ → Type 0
+Held h p = taken p h < added p h
 
 -- ---- what a call lists and frees
 
@@ -142,10 +141,10 @@ pub record Reached (h : List Event) (b : Base) (p : ℕ) : Type 0 where
   pub reached : Reaches b root p
 
 -- states, links and holds changed as the call says
-unfoldable pub changed : Base → Call → Base
-changed b start = emptyTables (b .n) .base
-changed b (does c) = edit b c
-changed b check = b
+unfoldable pub changed : Store → Call → Base
+changed s start = emptyTables (s .tables .base .n) .base
+changed s (does c) = edit (s .tables .base) (meant s c)
+changed s check = s .tables .base
 
 -- the call is an accepted bin of p
 abbrev pub Binned : Call → ℕ → Type 0
@@ -154,7 +153,7 @@ Binned c p = c ≡ does (Bin p)
 -- Each accepted call lists exactly those frozen pieces that no chain of links reaches any more from a draft or from a held piece, each once, lowest
 -- number first, and besides a binned draft those alone are freed
 pub record Listing (h : List Event) (c : Call) (lent : Areas) (o : Outcome) : Type 0 where
-  pub exact : (p : ℕ) → Among p (listed o) ↔ (Frozen (changed (lent .store .tables .base) c) p × (¬ Reached (event c o ∷ h) (changed (lent .store .tables .base) c) p))
+  pub exact : (p : ℕ) → Among p (listed o) ↔ (Frozen (changed (lent .store) c) p × (¬ Reached (event c o ∷ h) (changed (lent .store) c) p))
   pub ascending : Ascending (listed o)
   pub rest : o .areas .list ≡ listed o ++ drop (length (listed o)) (lent .list)
   pub alone : (c ≡ start → ⊥) → (p : ℕ) → (Live (lent .store .tables .base) p × (state (o .areas .store .tables .base) p ≡ 0)) ↔ (Among p (listed o) ⊎ Binned c p)

@@ -102,8 +102,9 @@ sets =
     -- 10. 0 to 1 and 2, both to 3, freeze 0: count of 3 is 2; release 0 frees 0 1 2 3.
     ∷ row 4 (gives 0 ∷ gives 1 ∷ gives 2 ∷ gives 3 ∷ ok (Set 0 0 1) ∷ ok (Set 0 1 2) ∷ ok (Set 1 0 3) ∷ ok (Set 2 0 3) ∷ ok (Freeze 0 0) ∷ sees 3 2 3 2 0 ∷ frees
     (Release 0 0) (0 ∷ 1 ∷ 2 ∷ 3 ∷ []) ∷ [])
-    -- 11. 999 holds, acquire: accepted. 1,000 holds: acquire and freeze give 6.
-    ∷ held 999 (sees 0 2 0 999 999 ∷ ok (Acquire 0 0) ∷ sees 0 2 0 1000 1000 ∷ no (Acquire 0 0) Limit ∷ no (Freeze 0 0) Limit ∷ [])
+    -- 11. 999 holds, acquire: accepted. 1,000 holds: acquire gives 6, and so does freeze by a seat without a hold; seat 0's own second freeze is accepted.
+    ∷ held 999 (sees 0 2 0 999 999 ∷ ok (Acquire 0 0) ∷ sees 0 2 0 1000 1000 ∷ no (Acquire 0 0) Limit ∷ no (Freeze 0 1) Limit ∷ ok (Freeze 0 0)
+    ∷ sees 0 2 0 1000 1000 ∷ [])
     -- 12. Bin of a draft linked by itself: accepted; by another draft: 8.
     ∷ row 4 (gives 0 ∷ ok (Set 0 0 0) ∷ ok (Bin 0) ∷ gives 0 ∷ gives 1 ∷ ok (Set 0 0 1) ∷ no (Bin 1) Linked ∷ [])
     -- 13. N = 1, second new: 9.
@@ -118,6 +119,8 @@ sets =
     -- Of several wrong numbers the first in the table is told: piece, place, target, free piece, free target, then the state.
     ∷ row 4 (gives 0 ∷ gives 1 ∷ ok (Freeze 1 0) ∷ no (Set 4 4 4) Number ∷ no (Set 2 4 4) Place ∷ no (Set 2 0 4) Target ∷ no (Set 2 0 3) Free ∷ no (Set 1 0 3) FreeTarget
     ∷ no (Set 1 0 none) State ∷ no (Set 0 0 3) FreeTarget ∷ ok (Set 0 0 none) ∷ [])
+    -- Handing in twice: seat 3's second freeze changes nothing, seat 5's adds its own; one release each lets the piece go.
+    ∷ row 4 (gives 0 ∷ ok (Freeze 0 3) ∷ ok (Freeze 0 3) ∷ sees 0 2 0 1 1 ∷ ok (Freeze 0 5) ∷ sees 0 2 0 2 2 ∷ ok (Release 0 3) ∷ frees (Release 0 5) (0 ∷ []) ∷ [])
     ∷ []
 
 -- all that the sets compute with besides the rules

@@ -2,11 +2,7 @@
 
 use compare::account::{difference, Figures, REFUSALS};
 use compare::profiles::{trace, PROFILES};
-use independent::line::{read, Command};
-use independent::pieces::Pieces;
-use independent::register::Line;
-use independent::tables::CAPACITY;
-use independent::trace::{answer, lines, run};
+use independent::trace::{lines, run};
 
 /// The figures of some traces of a profile.
 fn figures(name: &str) -> Figures {
@@ -79,32 +75,6 @@ fn seats_meet() {
     }
     let full = figures("a full register");
     assert!(full.refused[14] > 300 && full.refused[6] > 100, "{full}");
-}
-
-/// The seat that a line names.
-fn seat(line: &[u8]) -> Option<u16> {
-    match read(line)? {
-        Command::Freeze(_, seat) | Command::Acquire(_, seat) | Command::Release(_, seat) => {
-            Some(seat)
-        }
-        _ => None,
-    }
-}
-
-#[test]
-fn no_line_changes_the_lines_of_a_seat_that_it_does_not_name() {
-    for profile in PROFILES.iter().filter(|profile| profile.traces == 1) {
-        let mut pieces = Pieces::empty(CAPACITY);
-        for line in lines(&trace(profile, 1)) {
-            let others = |pieces: &Pieces| -> Vec<Line> {
-                let lines = pieces.register.iter().copied();
-                lines.filter(|other| Some(other.seat) != seat(line)).collect()
-            };
-            let before = others(&pieces);
-            answer(&mut pieces, line);
-            assert_eq!(before, others(&pieces), "{}: {}", profile.name, line.escape_ascii());
-        }
-    }
 }
 
 #[test]

@@ -5,6 +5,7 @@ mod call;
 mod door;
 mod fuzz;
 mod guarded;
+mod holding;
 mod judge;
 mod lent;
 mod near;
@@ -30,8 +31,9 @@ type Phase = (&'static str, usize, fn(&mut Random, &mut Judge) -> Result<(), Str
 const PHASES: &[Phase] = &[
     ("calls one after the other", 10, sequences::sequences),
     ("sets with wrong numbers", 5, sequences::sets),
-    ("holds up to the limit", 1, sequences::limit),
-    ("a register that is full", 3, sequences::register),
+    ("holds up to the limit", 1, holding::limit),
+    ("pieces handed in twice", 4, holding::twice),
+    ("a register that is full", 3, holding::register),
     ("calls on large stores", 1, sequences::large),
     ("chains and rings let go", 1, sequences::chains),
     ("single entries changed", 20, spoiled::singles),

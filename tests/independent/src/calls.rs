@@ -102,7 +102,7 @@ pub fn set(
     call(store, list, work, |pieces| pieces.set(p, k, t))
 }
 
-/// P and every draft it reaches become frozen; P gets one hold of the seat's.
+/// P and every draft it reaches become frozen; P gets one hold of the seat's, if frozen P has none.
 pub fn freeze(store: &mut Store, list: &mut [u16], work: &mut [u32], p: u16, seat: u16) -> Answer {
     call(store, list, work, |pieces| pieces.freeze(p, seat))
 }

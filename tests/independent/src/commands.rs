@@ -87,12 +87,14 @@ impl Pieces {
         self.settle()
     }
 
-    /// P and every draft it reaches become frozen; P gets one hold of the seat's.
+    /// P and every draft it reaches become frozen; P gets one hold of the seat's. A frozen P gets it
+    /// only if the seat has none on it: a second hand-in is the same hand-in.
     pub fn freeze(&mut self, p: u16, seat: u16) -> Result<Accepted, Refusal> {
         seated(seat)?;
         let start = self.live(p)?;
         if self.states[start] == FROZEN {
-            return self.acquire(p, seat);
+            let held = self.line(start, seat).is_some();
+            return if held { nothing() } else { self.acquire(p, seat) };
         }
         self.room(start, seat)?;
         for (q, reached) in self.reached(vec![start]).into_iter().enumerate() {

@@ -54,10 +54,12 @@ const SETS: &[Set] = &[
         NEW_0, NEW_1, NEW_2, NEW_3, ("s 0 0 1", DONE), ("s 0 1 2", DONE), ("s 1 0 3", DONE),
         ("s 2 0 3", DONE), ("f 0", DONE), ("l 3", "0 2 3 2 0"), ("r 0", "0 - 4 0 1 2 3"),
     ]),
-    // 999 holds, acquire: accepted. 1,000 holds: acquire and freeze give 6.
+    // 999 holds, acquire: accepted. 1,000 holds of seat 0's: acquire gives 6, and so does a freeze by
+    // another seat; its own second freeze is accepted.
     Set("11", 1024, &[
         NEW_0, ("f 0", DONE), ("998*a 0", DONE), ("l 0", "0 2 0 999 999"), ("a 0", DONE),
-        ("l 0", "0 2 0 1000 1000"), ("a 0", "6 - 0"), ("f 0", "6 - 0"),
+        ("l 0", "0 2 0 1000 1000"), ("a 0", "6 - 0"), ("f 0 1", "6 - 0"), ("f 0", DONE),
+        ("l 0", "0 2 0 1000 1000"),
     ]),
     // Bin of a draft linked by itself: accepted; by another draft: 8.
     Set("12", 1024, &[

@@ -1,5 +1,5 @@
 -- `freezing::freeze` does what the rules do: a draft is frozen, and of any other piece freeze is acquire. Assumes nothing.
-use mathlib.Core.Path.{refl}
+use mathlib.Core.Path.{refl, sym, _∙_}
 use native.Mathlib.Omega.{arith}
 use borrow.Author.Needs.{needs}
 use Rattle.rules.specs.Calls.{refusedBy}
@@ -8,7 +8,8 @@ use Rattle.laws.specs.Seated.{freeze-adds, refused-seat, refused-tables}
 use Rattle.naming.specs.Told.{piece-wrong, piece-named}
 use Rattle.naming.specs.Names.{wrong-did}
 use Rattle.holding.specs.Acquired.{acquiring-of, few-held, room-told}
-use Rattle.freezing.specs.Again.{freeze-names, freeze-crowded, freeze-did, again-did}
+use Rattle.freezing.specs.Again.{freeze-names, freeze-crowded, freeze-did, acquire-did}
+use Rattle.freezing.specs.Twice.{twice-did, wrong-itself}
 use Rattle.freezing.proofs.freeze.Statement.{statement}
 use Rattle.freezing.proofs.freeze.Tie as tie
 
@@ -18,9 +19,11 @@ returns c = (refused-seat (freeze-adds .seat) (c .if1 .taken), refl)
 returns-2 : tie.Need-returns-2
 unfolding refusedBy
 returns-2 c =
+    let lent : tie.Start = search in
     let seated : tie.Else1 = search in
     let asked : tie.After-piece = search in (
-      refused-tables (freeze-adds .seat) (seated .if1 .left) (wrong-did freeze-names (piece-wrong (asked .piece .ensures) (c .before .refusal .given .1))),
+      refused-tables (freeze-adds .seat) (wrong-itself (lent .pre .0) (piece-wrong (asked .piece .ensures) (c .before .refusal .given .1))) (seated .if1 .left)
+          (wrong-did freeze-names (piece-wrong (asked .piece .ensures) (c .before .refusal .given .1))),
       refl,
     )
 
@@ -81,18 +84,31 @@ returns-4 c =
       done .freeze-draft .ensures .1,
     )
 
-acquire-requires : tie.Need-acquire-requires
-acquire-requires c κs = let lent : tie.Start = search in acquiring-of (lent .pre .0)
+number-at-requires : tie.Need-number-at-requires
+number-at-requires c κs = let lent : tie.Start = search in (lent .pre .0 .sound .register .ordered, c .before .find2 .ensures)
 
 returns-5 : tie.Need-returns-5
 returns-5 c =
+    let own = c .before in
+    let lent = own .before .before .before .before .before .before .before .before .before .before .before .before .before .before .before .before .before .before .before in
+    (twice-did (lent .pre .0) (λ e. own .if4 .taken (own .before .number-at .ensures ∙ e)) (c .fresh2 .ensures), refl)
+
+acquire-requires : tie.Need-acquire-requires
+acquire-requires c κs = let lent : tie.Start = search in acquiring-of (lent .pre .0)
+
+returns-6 : tie.Need-returns-6
+returns-6 c =
     let done = c .before .before .before .before .before .before in
-    let other = done .before .before .before .before .before .before in
+    let own = done .before .before .before .before .before .before in
+    let other = own .before .before .before .before .before in
     let right = other .before .before in
     let asked = right .before .before in
     let seated = asked .before .before in
-    let lent = seated .before .before .before .before .before .before .before .before in
-    (again-did (lent .pre .0) (seated .if1 .left) (piece-named (asked .piece .ensures) (right .enum-told .given .1)) (other .if2 .left) (done .acquire .ensures .did (lent .pre .0)), refl)
+    let lent = seated .before .before .before .before .before .before .before .before in (
+      acquire-did (lent .pre .0) (seated .if1 .left) (piece-named (asked .piece .ensures) (right .enum-told .given .1)) (other .if2 .left)
+          (sym (own .before .number-at .ensures) ∙ own .if4 .left) (done .acquire .ensures .did (lent .pre .0)),
+      refl,
+    )
 
 pub freeze-spec : {M : Type 1} → statement M
 freeze-spec =
@@ -120,10 +136,16 @@ freeze-spec =
     (λ c. search needs)
     (λ c. search needs)
     returns-4
+    (λ c κs. let lent : tie.Start = search in lent .pre .0 .sound .register .ordered)
+    number-at-requires
+    (λ c κs. search needs)
+    (λ c. search needs)
+    (λ c. search needs)
+    returns-5
     acquire-requires
     (λ c. search needs)
     (λ c. search needs)
     (λ c. search needs)
     (λ c. search needs)
     (λ c. search needs)
-    returns-5)
+    returns-6)

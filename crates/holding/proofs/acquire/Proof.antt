@@ -4,7 +4,7 @@ use native.Mathlib.Omega.{arith}
 use borrow.Author.Needs.{needs}
 use Rattle.rules.specs.Calls.{refusedBy}
 use Rattle.laws.specs.Calls.{ready-tables}
-use Rattle.laws.specs.Seated.{acquire-adds, any-acquire, refused-seat, refused-tables}
+use Rattle.laws.specs.Seated.{acquire-adds, acquire-itself, any-acquire, refused-seat, refused-tables}
 use Rattle.naming.specs.Told.{piece-wrong, piece-named}
 use Rattle.naming.specs.Names.{wrong-did}
 use Rattle.editing.specs.Names.{acquire-names, state-refused}
@@ -22,7 +22,7 @@ returns-2 c =
     let seated : tie.Else1 = search in
     let asked : tie.After-piece = search in
     record {
-      did = λ ready. refused-tables (acquire-adds .seat) (seated .if1 .left)
+      did = λ ready. refused-tables (acquire-adds .seat) acquire-itself (seated .if1 .left)
           (wrong-did (acquire-names .first) (piece-wrong (asked .piece .ensures) (c .before .refusal .given .1)));
     }
 
@@ -40,7 +40,7 @@ returns-3 c =
     let asked : tie.After-piece = search in
     let right : tie.After-enum-told = search in
     record {
-      did = λ ready. refused-tables (acquire-adds .seat) (seated .if1 .left)
+      did = λ ready. refused-tables (acquire-adds .seat) acquire-itself (seated .if1 .left)
           (state-refused acquire-names (piece-named (asked .piece .ensures) (right .enum-told .given .1) .right) (c .if2 .taken));
     }
 
@@ -58,7 +58,7 @@ returns-4 c =
     let right : tie.After-enum-told = search in
     let frozen : tie.Else2 = search in
     record {
-      did = λ ready. refused-tables (acquire-adds .seat) (seated .if1 .left)
+      did = λ ready. refused-tables (acquire-adds .seat) acquire-itself (seated .if1 .left)
           (any-acquire (acquire-limit (ready-tables ready) (piece-named (asked .piece .ensures) (right .enum-told .given .1)) (frozen .if2 .left) (c .if3 .taken)));
     }
 

@@ -5,7 +5,7 @@ use mathlib.Core.Path.{sym, _∙_}
 use borrow.Author.Needs.{needs}
 use Rattle.rules.specs.Calls.{refusedBy}
 use Rattle.laws.specs.Calls.{ready-tables}
-use Rattle.laws.specs.Seated.{release-takes, any-release, refused-seat, refused-tables, refused-yours, done-less}
+use Rattle.laws.specs.Seated.{release-takes, release-itself, any-release, refused-seat, refused-tables, refused-yours, done-less}
 use Rattle.naming.specs.Told.{piece-wrong, piece-named}
 use Rattle.naming.specs.Names.{wrong-did}
 use Rattle.editing.specs.Names.{release-names, state-refused}
@@ -21,7 +21,7 @@ unfolding refusedBy
 returns-2 c =
     let seated : tie.Else1 = search in
     let asked : tie.After-piece = search in
-    refused-tables (release-takes .seat) (seated .if1 .left)
+    refused-tables (release-takes .seat) release-itself (seated .if1 .left)
     (wrong-did (release-names .first) (piece-wrong (asked .piece .ensures) (c .before .refusal .given .1)))
 
 slice-read-if2 : tie.Need-slice-read-if2
@@ -37,7 +37,7 @@ returns-3 c =
     let seated : tie.Else1 = search in
     let asked : tie.After-piece = search in
     let right : tie.After-enum-told = search in
-    refused-tables (release-takes .seat) (seated .if1 .left)
+    refused-tables (release-takes .seat) release-itself (seated .if1 .left)
     (state-refused release-names (piece-named (asked .piece .ensures) (right .enum-told .given .1) .right) (c .if2 .taken))
 
 slice-read-if3 : tie.Need-slice-read-if3
@@ -54,7 +54,7 @@ returns-4 c =
     let asked : tie.After-piece = search in
     let right : tie.After-enum-told = search in
     let frozen : tie.Else2 = search in
-    refused-tables (release-takes .seat) (seated .if1 .left)
+    refused-tables (release-takes .seat) release-itself (seated .if1 .left)
     (any-release (release-held (piece-named (asked .piece .ensures) (right .enum-told .given .1)) (frozen .if2 .left) (c .if3 .taken)))
 
 find-requires : tie.Need-find-requires
@@ -74,7 +74,7 @@ returns-5 c =
     let right : tie.After-enum-told = search in
     let frozen : tie.Else2 = search in
     let held : tie.Else3 = search in
-    refused-yours release-takes (seated .if1 .left)
+    refused-yours release-takes release-itself (seated .if1 .left)
     (release-accepted {list = lent .args .list .now} (record {
       ready = ready-tables (lent .pre .0);
       room = lent .pre .1;
@@ -115,7 +115,7 @@ returns-6 c =
     let gone = noted .before .before .before .before .before .before .before .before .before .before .before .before .before .before in
     let yours = gone .before .before .before .before .before .before .before in
     let seated = yours .before .before .before .before .before .before .before .before .before .before .before .before .before in
-    done-less release-takes (seated .if1 .left) (λ e. yours .if4 .left (yours .before .number-at .ensures ∙ e))
+    done-less release-takes release-itself (seated .if1 .left) (λ e. yours .if4 .left (yours .before .number-at .ensures ∙ e))
     (any-release (gone .let-hold-go .ensures .did)) (noted .less .ensures)
 
 pub release-spec : {M : Type 1} → statement M

@@ -27,8 +27,17 @@ type Only = (&'static str, fn(&mut Random, &mut Vec<usize>) -> String);
 
 const ONLY: &[Only] = &[
     ("only look", |random, _| format!("l {}", random.below(CAPACITY))),
-    ("only acquire and release", |random, held| hold(random, held, "a")),
-    ("only freeze again and release", |random, held| hold(random, held, "f")),
+    ("only acquire and release", |random, held| {
+        let p = random.below(HALF);
+        hold(random, held, "a", p)
+    }),
+    ("only freeze again and release", |random, held| {
+        let p = without(random, held);
+        hold(random, held, "f", p)
+    }),
+    ("only freeze again, where there is a hold", |random, _| {
+        format!("f {}", 8 * random.below(HALF / 8))
+    }),
     ("only acquire and release, lines that are there, by 32 seats", |random, held| {
         let (p, seat) = (8 * random.below(MET), random.from(1, 31));
         hold_by(random, held, p, seat)
@@ -72,13 +81,22 @@ fn draft(random: &mut Random) -> usize {
     random.from(HALF, CAPACITY - 1)
 }
 
-/// One hold more on any frozen piece, or one of those holds less.
-fn hold(random: &mut Random, held: &mut Vec<usize>, more: &str) -> String {
-    if held.len() > HALF || (!held.is_empty() && random.once_in(2)) {
+/// A frozen piece that has no hold.
+fn without(random: &mut Random, held: &[usize]) -> usize {
+    loop {
+        let p = 8 * random.below(HALF / 8) + random.from(1, 7);
+        if !held.contains(&p) {
+            return p;
+        }
+    }
+}
+
+/// One hold more on a frozen piece, or one of at most 256 such holds less.
+fn hold(random: &mut Random, held: &mut Vec<usize>, more: &str, p: usize) -> String {
+    if held.len() >= HALF / 2 || (!held.is_empty() && random.once_in(2)) {
         let last = held.swap_remove(random.below(held.len()));
         return format!("r {last}");
     }
-    let p = random.below(HALF);
     held.push(p);
     format!("{more} {p}")
 }

@@ -10,6 +10,7 @@ mod refusals;
 mod seats;
 mod shapes;
 mod steps;
+mod twice;
 
 use crate::author::Author;
 use crate::random::Random;
@@ -46,6 +47,8 @@ pub const PROFILES: &[Profile] = &[
     Profile { name: "many seats", traces: 1, write: seats::many },
     Profile { name: "shapes by many seats", traces: 1, write: seats::shapes },
     Profile { name: "a full register", traces: 1, write: seats::full },
+    Profile { name: "handed in twice", traces: 1, write: twice::twice },
+    Profile { name: "handed in twice, at the limits", traces: 1, write: twice::at_the_limits },
     Profile { name: "near misses", traces: 1, write: misses::near_misses },
     Profile { name: "random bytes", traces: 1, write: misses::random_bytes },
     Profile { name: "long lines", traces: 1, write: ends::long_lines },

@@ -64,7 +64,7 @@ pub fn shapes(author: &mut Author) {
 }
 
 /// Seats take a hold on each of 32 pieces, until every line is used.
-fn fill(author: &mut Author, held: &[u16]) {
+pub fn fill(author: &mut Author, held: &[u16]) {
     let turn = author.random.below(LINES);
     for i in (0..LINES).map(|i| (5 * i + turn) % LINES) {
         if author.pieces.register.len() < LINES {
