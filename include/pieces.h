@@ -66,7 +66,7 @@ enum pieces_refusals {
     PIECES_ACCEPTED = 0,
     PIECES_SIZE = 1,        /* N outside 1 to 1,024, an area of the store not exactly its length,
                                list or work too short (of the areas the call takes) */
-    PIECES_UNSOUND = 2,     /* tables not sound (not for start and check) */
+    PIECES_UNSOUND = 2,     /* the store not sound (not for start and check) */
     PIECES_SEAT = 12,       /* the seat is above 31 */
     PIECES_NUMBER = 3,      /* wrong piece: P is N or more, and pieces are 0 to N - 1 */
     PIECES_PLACE = 15,      /* wrong place: K is above 3, and a piece has link places 0 to 3 */
