@@ -28,4 +28,3 @@ pub mod Checked
 pub mod Judged
 pub mod Agreed
 pub mod Done
-pub mod After
