@@ -36,8 +36,7 @@ typedef struct {
     uint8_t states[LARGEST];
     uint16_t links[4 * LARGEST], leaders[LARGEST], holds[LARGEST];
     uint32_t counts[LARGEST];
-    uint16_t lines[REGISTER];
-    uint16_t list[LARGEST];
+    uint16_t lines[REGISTER], into[LARGEST], list[LARGEST];
 } Tables;
 
 static Tables kept, lent;
@@ -46,7 +45,7 @@ static size_t n;
 
 #define THE_STORE \
     n, lent.states, n, lent.links, 4 * n, lent.leaders, n, lent.holds, n, lent.counts, n, \
-        lent.lines, REGISTER
+        lent.lines, REGISTER, lent.into, n
 #define THE_WORK work, 8 * n
 #define ALL THE_STORE, lent.list, n, THE_WORK
 
@@ -106,7 +105,10 @@ static void make(int shape, int call, size_t m) {
     if (shape != EMPTY) {
         for (size_t p = 0; p < m; p++) {
             lent.states[p] = 1;
-            for (size_t k = 0; k < 4; k++) lent.links[4 * p + k] = link_of(shape, p, k, m);
+            for (size_t k = 0; k < 4; k++) {
+                size_t t = lent.links[4 * p + k] = link_of(shape, p, k, m);
+                if (t != NONE) lent.into[t] += t != p;
+            }
         }
         if (m + 2 <= n) lent.states[n - 2] = 1;
         if (shape == SEATED) {

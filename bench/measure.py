@@ -49,18 +49,16 @@ def built(library, name, sources, *flags):
 
 
 def build(folder):
-    """The baseline, the one with in-links kept, the one that tallies, the driver, the traces."""
+    """The baseline, the driver, the writer of traces."""
     os.makedirs(TRACES, exist_ok=True)
     library = os.path.join(folder, "libpieces.a")
     plain = built(library, "baseline", ["baseline.c"])
-    kept = built(library, "baseline-inlinks", ["baseline.c"], "-DKEEP_INLINKS")
-    tally = built(library, "baseline-tally", ["baseline.c"], "-DTALLY")
     drive = built(library, "drive", ["drive.c", "calls.c"], library, "-Wl,-z,now")
     run([NEED, "cargo", "cargo"])
     where = dict(os.environ, CARGO_TARGET_DIR=TESTS)
     package = os.path.join(ROOT, "tests", "compare")
     run(["cargo", "build", "--release", "--offline", "--quiet", "-j1"], cwd=package, env=where)
-    return plain, kept, tally, drive, os.path.join(TESTS, "release", "traces")
+    return plain, drive, os.path.join(TESTS, "release", "traces")
 
 
 def trace(writer, name, lines):
@@ -72,9 +70,9 @@ def trace(writer, name, lines):
     return path
 
 
-def head(path, lines):
+def head(path, lines, name):
     """The first lines of a trace, as a file of its own."""
-    part = os.path.join(OUT, "head")
+    part = os.path.join(OUT, name)
     with open(path, "rb") as whole, open(part, "wb") as first:
         for _ in range(lines):
             first.write(whole.readline())
@@ -146,12 +144,11 @@ def instructions(counting, program, path):
     return int(counted[0].split()[-1]) if counted else None
 
 
-def passes(tally, path):
-    """How many freezes of drafts and how many bins a trace has."""
-    with open(path, "rb") as source:
-        done = subprocess.run(command(tally), stdin=source, stdout=subprocess.DEVNULL,
-                              stderr=subprocess.PIPE, text=True, check=True)
-    return [int(word) for word in done.stderr.split()]
+def between(counting, programs, path, skipped, counted):
+    """The instructions that each program takes for so many lines of a trace after the first."""
+    heads = [head(path, skipped, "head"), head(path, skipped + counted, "longer head")]
+    both = [[instructions(counting, program, part) for part in heads] for program in programs]
+    return [first and last and last - first for first, last in both]
 
 
 def driven(drive, what, rounds):

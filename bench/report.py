@@ -1,8 +1,7 @@
-"""The tables of docs/SPEED.md as Markdown, and the plot as SVG."""
+"""The targets, and the tables of docs/SPEED.md as Markdown."""
 
-from xml.sax.saxutils import escape
-
-ROW, LEFT, WIDTH, RIGHT = 17, 270, 420, 90
+# The targets, as ratios to C: of the instructions and of the time of trace lines, and of calls.
+LINE_INSTRUCTIONS, LINE_TIME, CALL = 1.3, 1.5, 1.5
 
 
 def table(head, rows):
@@ -19,36 +18,56 @@ def figure(value, digits=1):
     return "-" if value is None else f"{value:,.{digits}f}"
 
 
-def judged(profile, emulated):
-    """The ratio that is held to the target: of times, or of instructions where an emulator ran."""
-    got, plain = profile["instructions" if emulated else "times"][:2]
+def of(profile, what):
+    """The ratio of a profile, by instructions or by times; none if one is not known."""
+    got, plain = profile[what]
     return got / plain if got and plain else None
 
 
-def verdict(profile, emulated):
-    """Whether the target of 1.5 holds; there is none where freezes and bins make passes."""
-    value = judged(profile, emulated)
-    if profile["passes"] >= 0.1:
-        return "none"
-    return "-" if value is None else "met" if value <= 1.5 else "MISSED"
+def verdict(value, target):
+    return "-" if value is None else "met" if value <= target else "MISSED"
+
+
+def judged(profile, emulated):
+    """The verdicts on a profile, by instructions and by time; times of an emulator have none."""
+    by_time = None if emulated else of(profile, "times")
+    return verdict(of(profile, "instructions"), LINE_INSTRUCTIONS), verdict(by_time, LINE_TIME)
+
+
+def verdicts(profiles, ratios, emulated):
+    """In words how many profiles and calls meet each target, and which do not."""
+    columns = list(zip(*(judged(profile, emulated) for profile in profiles)))
+    for what, target, column in (("instructions", LINE_INSTRUCTIONS, columns[0]),
+                                 ("time", LINE_TIME, columns[1])):
+        known = [(p["name"], one) for p, one in zip(profiles, column) if one != "-"]
+        missed = [name for name, one in known if one == "MISSED"]
+        if known:
+            yield (f"Trace lines, at most {target} times the C by {what}: "
+                   f"{len(known) - len(missed)} of {len(known)} profiles"
+                   + (f"; not: {'; '.join(missed)}." if missed else "."))
+    missed = [f"{call} ({shape})" for (shape, call), value in ratios.items() if value > CALL]
+    if ratios:
+        yield (f"Public calls, at most {CALL} times the C by {'instructions' if emulated else 'time'}: "
+               f"{len(ratios) - len(missed)} of {len(ratios)}"
+               + (f"; not: {'; '.join(missed)}." if missed else "."))
 
 
 def trace_table(profiles, emulated):
-    head = ["Profile", "bytes a line", "freezes and bins in 100 lines", "C, ns a line",
-            "C with in-links kept", "program", "ratio", "ratio to in-links kept", "target 1.5",
-            "C, instructions a line", "program, instructions", "ratio of instructions"]
+    head = ["Profile", "bytes a line", "C, instructions a line", "program, instructions",
+            "ratio of instructions", f"target {LINE_INSTRUCTIONS}", "C, ns a line", "program, ns",
+            "ratio of times", f"target {LINE_TIME}"]
     rows = []
     for profile in profiles:
-        program, plain, kept = profile["times"]
-        counted, wanted = profile["instructions"]
-        rows.append([profile["name"], figure(profile["bytes"]), figure(profile["passes"]),
-                     figure(plain), figure(kept), figure(program), ratio(program, plain),
-                     ratio(program, kept), verdict(profile, emulated), figure(wanted, 0),
-                     figure(counted, 0), ratio(counted, wanted)])
+        (counted, wanted), (program, plain) = profile["instructions"], profile["times"]
+        by_instructions, by_time = judged(profile, emulated)
+        rows.append([profile["name"], figure(profile["bytes"]), figure(wanted, 0),
+                     figure(counted, 0), ratio(counted, wanted), by_instructions, figure(plain),
+                     figure(program), ratio(program, plain), by_time])
     return table(head, rows)
 
 
 def ordered(rows, column):
+    """The different values of a column, in their order."""
     return list(dict.fromkeys(row[column] for row in rows))
 
 
@@ -87,52 +106,24 @@ def growth_table(rows, column, first, name):
                  [[f"{at:,}"] + [by[at, one] for one in names] for at in ordered(rows, column)])
 
 
+def beside_table(rows):
+    """What lines over and over take, a row for each number of live pieces beside them."""
+    names = ordered(rows, "name")
+    by = {(row["size"], row["name"]): row for row in rows}
+    head = ["Live pieces"] + [f"{name}, {what}" for name in names for what in ("instructions", "ns")]
+
+    def cells(row):
+        for what in ("instructions", "times"):
+            yield f"{figure(row[what][0])} ({ratio(*row[what])})"
+    return table(head, [[f"{size:,}"] + [cell for name in names for cell in cells(by[size, name])]
+                        for size in ordered(rows, "size")])
+
+
 def chain_table(chains):
-    rows = [[f"{size:,}", figure(plain), figure(kept), figure(program), ratio(program, plain),
-             ratio(program, kept)] for size, (program, plain, kept) in chains]
-    return table(["Pieces in the chain", "C, ns a piece", "C with in-links kept", "program",
-                  "ratio", "ratio to in-links kept"], rows)
-
-
-def bars(title, entries, top, most):
-    """SVG of one panel: for each entry a name, the ratio of its bar, and further ticks."""
-    def across(value):
-        return LEFT + WIDTH * min(value, most) / most
-    parts = [f'<text x="10" y="{top}" font-weight="bold">{escape(title)}</text>']
-    low, high = top + 10, top + 14 + ROW * len(entries)
-    for at, dash in ((1.0, "none"), (1.5, "5 3")):
-        x = across(at)
-        parts.append(f'<line x1="{x:.1f}" x2="{x:.1f}" y1="{low}" y2="{high}" stroke="#333"'
-                     f' stroke-dasharray="{dash}"/>'
-                     f'<text x="{x:.1f}" y="{high + 12}" text-anchor="middle">{at}</text>')
-    for i, (name, value, ticks) in enumerate(entries):
-        y = top + 14 + ROW * i
-        colour = "#4a7a4a" if value <= 1.5 else "#b5543c"
-        parts.append(f'<text x="{LEFT - 6}" y="{y + 10}" text-anchor="end">{escape(name)}</text>'
-                     f'<rect x="{LEFT}" y="{y}" width="{across(value) - LEFT:.1f}" height="12"'
-                     f' fill="{colour}" fill-opacity="0.75"/>'
-                     f'<text x="{LEFT + WIDTH + 10}" y="{y + 10}">{value:.2f}</text>')
-        parts += [f'<line x1="{across(tick):.1f}" x2="{across(tick):.1f}" y1="{y + 1}"'
-                  f' y2="{y + 11}" stroke="#111"/>' for tick in ticks if tick <= most]
-    return parts, high + 40
-
-
-def plot(profiles, ratios, name, emulated):
-    """Ratios as bars: each profile, and each call by its highest with a tick for every shape."""
-    lines = [(p["name"], judged(p, emulated) or 0, []) for p in profiles]
-    by_call = {}
-    for (_, call), value in ratios.items():
-        by_call.setdefault(call, []).append(value)
-    calls = [(call, max(values), sorted(values)[:-1]) for call, values in by_call.items()]
-    most = min(4.0, max([2.0] + [entry[1] for entry in lines + calls]) * 1.05)
-    what = "Instructions" if emulated else "Time"
-    first, top = bars("Trace lines: the program to the C baseline", lines, 50, most)
-    second, top = bars("Public calls at N = 1,024: libpieces.a to C, the highest of the shapes "
-                       "(ticks: the others)", calls, top + 10, most)
-    width = LEFT + WIDTH + RIGHT
-    return "\n".join([
-        f'<svg xmlns="http://www.w3.org/2000/svg" width="{width}" height="{top}"'
-        f' viewBox="0 0 {width} {top}" font-family="sans-serif" font-size="11">',
-        f'<rect width="{width}" height="{top}" fill="white"/>',
-        f'<text x="10" y="22" font-size="14">{what} as a ratio to plain C, {escape(name)}; '
-        'below 1.0 is less than C</text>', *first, *second, "</svg>", ""])
+    rows = []
+    for chain in chains:
+        (counted, wanted), (program, plain) = chain["instructions"], chain["times"]
+        rows.append([f"{chain['size']:,}", figure(wanted), figure(counted), ratio(counted, wanted),
+                     figure(plain), figure(program), ratio(program, plain)])
+    return table(["Pieces in the chain", "C, instructions a piece", "program, instructions", "ratio",
+                  "C, ns a piece", "program, ns", "ratio"], rows)

@@ -2,7 +2,8 @@
  * A drawing program's use of the store: a front and a back that name each other are drawn up, a
  * student is told which number of a link was wrong, and both are handed in by one seat, twice as
  * students press the button, looked at, and released by it alone; once by calls, once by a lent
- * trace.
+ * trace. A piece that another links to cannot be binned, and the table of links into drafts tells
+ * by how many link places it is named.
  */
 #include "pieces.h"
 #include <stdio.h>
@@ -15,10 +16,11 @@ enum { N = 16, REGISTER = 3 * PIECES_LINES };
 enum { MINE = 3, YOURS = 4 };
 
 static uint8_t states[N];
-static uint16_t links[4 * N], leaders[N], holds[N], lines[REGISTER], list[N];
+static uint16_t links[4 * N], leaders[N], holds[N], lines[REGISTER], into[N], list[N];
 static uint32_t counts[N], work[8 * N];
 
-#define STORE N, states, N, links, 4 * N, leaders, N, holds, N, counts, N, lines, REGISTER
+#define STORE \
+    N, states, N, links, 4 * N, leaders, N, holds, N, counts, N, lines, REGISTER, into, N
 #define AREAS STORE, list, N, work, 8 * N
 
 /* The answer of a call that is to be accepted. */
@@ -61,6 +63,8 @@ static void by_calls(void) {
     printf("front to back at place 4: %s\n", told(pieces_set(AREAS, front, 4, back)));
     printf("front to piece 16: %s\n", told(pieces_set(AREAS, front, 1, N)));
     printf("front to piece 9: %s\n", told(pieces_set(AREAS, front, 1, 9)));
+    printf("bin of back: refused, %u, link places of others that name it: %u\n",
+           pieces_refusal(pieces_bin(AREAS, back)), into[back]);
     look("front", front);
 
     accepted("freeze", pieces_freeze(AREAS, front, MINE));
@@ -79,7 +83,7 @@ static void by_calls(void) {
 
 static void by_trace(void) {
     static const char trace[] =
-        "n\nn\ns 0 0 1\ns 1 0 0\ns 0 4 1\ns 0 1 1024\ns 0 1 9\nl 0\n"
+        "n\nn\ns 0 0 1\ns 1 0 0\ns 0 4 1\ns 0 1 1024\ns 0 1 9\nb 1\nl 0\n"
         "f 0 3\nf 0 3\nl 0\nl 1\nr 1 3\nr 0 4\nr 0 3\n";
     static uint8_t room[1000];
     uint64_t length = pieces_trace((const uint8_t *)trace, strlen(trace), room, sizeof room);

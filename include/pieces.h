@@ -17,10 +17,11 @@
  *   counts   N            at a leader: the group's count; else 0
  *   lines    3072         the register: PIECES_LINES lines of seat, piece and number of holds,
  *                         ascending by seat, then piece; unused lines are last and all 0
+ *   into     N            draft: the link places of other pieces that name it; else 0
  *   list     at least N   numbers freed by this call
  *   work     at least 8N  scratch
  *
- * The first six are the store; each is to be exactly its length. pieces_start makes any contents
+ * The first seven are the store; each is to be exactly its length. pieces_start makes any contents
  * the empty store. Every other call looks first whether the tables are sound, so a program may
  * read them, keep them in a file and lend them again.
  *
@@ -78,7 +79,7 @@ enum pieces_refusals {
     PIECES_REGISTER = 14,   /* a hold would need a line of the register and all are used */
     PIECES_NOTHELD = 7,     /* release of a piece with 0 holds */
     PIECES_NOTYOURS = 13,   /* release of a piece that has holds, but none of this seat's */
-    PIECES_LINKED = 8,      /* bin of a draft that another piece links to */
+    PIECES_LINKED = 8,      /* bin of a draft that another piece links to: its into is not 0 */
     PIECES_FULL = 9,        /* new with no free number */
     PIECES_LONG = 10,       /* lent trace over 65,536 bytes */
     PIECES_ROOM = 11        /* output of a lent trace longer than the room lent */
@@ -96,14 +97,15 @@ uint64_t pieces_trace(const uint8_t *trace, size_t trace_len, uint8_t *room, siz
 uint64_t pieces_start(size_t n, uint8_t *states, size_t states_len, uint16_t *links,
                       size_t links_len, uint16_t *leaders, size_t leaders_len, uint16_t *holds,
                       size_t holds_len, uint32_t *counts, size_t counts_len, uint16_t *lines,
-                      size_t lines_len);
+                      size_t lines_len, uint16_t *into, size_t into_len);
 
 /* The lowest free number becomes a draft with four empty links; its number is the value. */
 uint64_t pieces_new(size_t n, uint8_t *states, size_t states_len, const uint16_t *links,
                     size_t links_len, const uint16_t *leaders, size_t leaders_len,
                     const uint16_t *holds, size_t holds_len, const uint32_t *counts,
                     size_t counts_len, const uint16_t *lines, size_t lines_len,
-                    const uint16_t *list, size_t list_len, uint32_t *work, size_t work_len);
+                    const uint16_t *into, size_t into_len, const uint16_t *list, size_t list_len,
+                    uint32_t *work, size_t work_len);
 
 /*
  * Draft P's link K becomes T: none, a draft, a frozen piece, P itself. Every frozen piece no
@@ -112,8 +114,9 @@ uint64_t pieces_new(size_t n, uint8_t *states, size_t states_len, const uint16_t
 uint64_t pieces_set(size_t n, uint8_t *states, size_t states_len, uint16_t *links,
                     size_t links_len, uint16_t *leaders, size_t leaders_len,
                     const uint16_t *holds, size_t holds_len, uint32_t *counts, size_t counts_len,
-                    const uint16_t *lines, size_t lines_len, uint16_t *list, size_t list_len,
-                    uint32_t *work, size_t work_len, uint16_t p, uint16_t k, uint16_t t);
+                    const uint16_t *lines, size_t lines_len, uint16_t *into, size_t into_len,
+                    uint16_t *list, size_t list_len, uint32_t *work, size_t work_len, uint16_t p,
+                    uint16_t k, uint16_t t);
 
 /*
  * P and every draft it reaches become frozen; P gets one hold of the seat's. If P is frozen
@@ -123,15 +126,17 @@ uint64_t pieces_set(size_t n, uint8_t *states, size_t states_len, uint16_t *link
 uint64_t pieces_freeze(size_t n, uint8_t *states, size_t states_len, const uint16_t *links,
                        size_t links_len, uint16_t *leaders, size_t leaders_len, uint16_t *holds,
                        size_t holds_len, uint32_t *counts, size_t counts_len, uint16_t *lines,
-                       size_t lines_len, const uint16_t *list, size_t list_len, uint32_t *work,
-                       size_t work_len, uint16_t p, uint16_t seat);
+                       size_t lines_len, uint16_t *into, size_t into_len, const uint16_t *list,
+                       size_t list_len, uint32_t *work, size_t work_len, uint16_t p,
+                       uint16_t seat);
 
 /* One hold of the seat's more on frozen P. */
 uint64_t pieces_acquire(size_t n, const uint8_t *states, size_t states_len, const uint16_t *links,
                         size_t links_len, const uint16_t *leaders, size_t leaders_len,
                         uint16_t *holds, size_t holds_len, uint32_t *counts, size_t counts_len,
-                        uint16_t *lines, size_t lines_len, const uint16_t *list, size_t list_len,
-                        uint32_t *work, size_t work_len, uint16_t p, uint16_t seat);
+                        uint16_t *lines, size_t lines_len, const uint16_t *into, size_t into_len,
+                        const uint16_t *list, size_t list_len, uint32_t *work, size_t work_len,
+                        uint16_t p, uint16_t seat);
 
 /*
  * One hold of the seat's less on frozen P, on which the seat is to have one. Every frozen piece
@@ -140,8 +145,9 @@ uint64_t pieces_acquire(size_t n, const uint8_t *states, size_t states_len, cons
 uint64_t pieces_release(size_t n, uint8_t *states, size_t states_len, uint16_t *links,
                         size_t links_len, uint16_t *leaders, size_t leaders_len, uint16_t *holds,
                         size_t holds_len, uint32_t *counts, size_t counts_len, uint16_t *lines,
-                        size_t lines_len, uint16_t *list, size_t list_len, uint32_t *work,
-                        size_t work_len, uint16_t p, uint16_t seat);
+                        size_t lines_len, const uint16_t *into, size_t into_len, uint16_t *list,
+                        size_t list_len, uint32_t *work, size_t work_len, uint16_t p,
+                        uint16_t seat);
 
 /*
  * Draft P becomes free; it is not listed. Every frozen piece no longer kept becomes free and is
@@ -150,22 +156,23 @@ uint64_t pieces_release(size_t n, uint8_t *states, size_t states_len, uint16_t *
 uint64_t pieces_bin(size_t n, uint8_t *states, size_t states_len, uint16_t *links,
                     size_t links_len, uint16_t *leaders, size_t leaders_len,
                     const uint16_t *holds, size_t holds_len, uint32_t *counts, size_t counts_len,
-                    const uint16_t *lines, size_t lines_len, uint16_t *list, size_t list_len,
-                    uint32_t *work, size_t work_len, uint16_t p);
+                    const uint16_t *lines, size_t lines_len, uint16_t *into, size_t into_len,
+                    uint16_t *list, size_t list_len, uint32_t *work, size_t work_len, uint16_t p);
 
 /* State, leader, count of its group, holds of P; for a draft 1, none, 0, 0. */
 uint64_t pieces_look(size_t n, const uint8_t *states, size_t states_len, const uint16_t *links,
                      size_t links_len, const uint16_t *leaders, size_t leaders_len,
                      const uint16_t *holds, size_t holds_len, const uint32_t *counts,
                      size_t counts_len, const uint16_t *lines, size_t lines_len,
-                     uint32_t *work, size_t work_len, uint16_t p);
+                     const uint16_t *into, size_t into_len, uint32_t *work, size_t work_len,
+                     uint16_t p);
 
 /* Yes exactly if the tables are sound. Of the refusals it gives only SIZE. */
 uint64_t pieces_check(size_t n, const uint8_t *states, size_t states_len, const uint16_t *links,
                       size_t links_len, const uint16_t *leaders, size_t leaders_len,
                       const uint16_t *holds, size_t holds_len, const uint32_t *counts,
                       size_t counts_len, const uint16_t *lines, size_t lines_len,
-                      uint32_t *work, size_t work_len);
+                      const uint16_t *into, size_t into_len, uint32_t *work, size_t work_len);
 
 /* The refusal of any of the nine calls, 0 if it was accepted. */
 static inline unsigned pieces_refusal(uint64_t answer) { return (unsigned)(answer & 0xff); }

@@ -5,7 +5,7 @@
  * A request: a byte for the function (0 pieces_trace, 1 pieces_start, .. 9 pieces_check), N, three
  * numbers (P, K and T; or P, the seat and 0), then each area: its length in entries, then its
  * entries between GUARD others on each side.
- * The areas are trace and room for pieces_trace; else all eight, of which the function gets those
+ * The areas are trace and room for pieces_trace; else all nine, of which the function gets those
  * that it takes. The answer: the function's, then each area again with the entries about it.
  * Requests need not wait for answers: those made so far are written before it waits for more.
  */
@@ -18,13 +18,13 @@
 
 /* An odd number of entries, so that an area is aligned as its type asks and no more. */
 enum { GUARD = 17 };
-enum { AREAS = 8, CHUNK = 1 << 16 };
+enum { AREAS = 9, CHUNK = 1 << 16 };
 enum { TRACE, START, NEW, SET, FREEZE, ACQUIRE, RELEASE, BIN, LOOK, CHECK, FUNCTIONS };
-enum { STATES, LINKS, LEADERS, HOLDS, COUNTS, REGISTER, LIST, WORK };
+enum { STATES, LINKS, LEADERS, HOLDS, COUNTS, REGISTER, INTO, LIST, WORK };
 
 /* Bytes of an entry, by area. */
 static const size_t trace_widths[] = {1, 1};
-static const size_t store_widths[AREAS] = {1, 2, 2, 2, 4, 2, 2, 4};
+static const size_t store_widths[AREAS] = {1, 2, 2, 2, 4, 2, 2, 2, 4};
 
 typedef struct {
     uint8_t *bytes; /* the entries, with those about them */
@@ -107,7 +107,8 @@ static void *first(int area) { return areas[area].bytes + GUARD * areas[area].wi
 
 #define LENT(area) first(area), areas[area].length
 #define STORE \
-    n, LENT(STATES), LENT(LINKS), LENT(LEADERS), LENT(HOLDS), LENT(COUNTS), LENT(REGISTER)
+    n, LENT(STATES), LENT(LINKS), LENT(LEADERS), LENT(HOLDS), LENT(COUNTS), LENT(REGISTER), \
+        LENT(INTO)
 #define ALL STORE, LENT(LIST), LENT(WORK)
 
 static uint64_t call(int function, size_t n, const uint16_t *numbers) {

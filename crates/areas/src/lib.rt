@@ -112,13 +112,17 @@ pub fn shows(states: &[u8], state: u8, from: usize) -> bool
     some
 }
 
-// A number below which nothing is free, found block by block.
-pub fn none_free(n: usize, states: &[u8]) -> usize
-    requires { ⌜ length (now states) ≡ n ⌝ }
+// The start of the first block of 64 that has a free number, counted from `from`, below which nothing is free.
+pub fn none_free(n: usize, states: &[u8], from: usize) -> usize
+    requires { ⌜ (length (now states) ≡ n) × (from ≤ n) × NoneFree (now states) from ⌝ }
     ensures { λ r. ⌜ (r ≤ n) × NoneFree (now (states .entry)) r ⌝ }
 {
-    let mut p: usize = 0;
+    let mut p = from;
     while 64 <= n - p {
+        let first = states[p];
+        if first == Store::FREE {
+            return p;
+        }
         if shows(states, 0, p) {
             return p;
         }

@@ -1,4 +1,4 @@
-// Bin on sound tables: draft P becomes free.
+// Bin on sound tables: draft P becomes free, where no other piece links to it.
 ghost use mathlib.Core.Path.{_≡_};
 ghost use mathlib.Core.List.{[], _∷_};
 ghost use Prim.Native.Nat.{_*_, _≤_, _<_};
@@ -7,47 +7,15 @@ ghost use Rattle.rules.specs.Tables.{tablesOf};
 ghost use Rattle.rules.specs.Calls.{answered, Ready};
 ghost use Rattle.rules.specs.declared.Command.the-variants.{Bin};
 ghost use Rattle.laws.specs.ByTables.{DidTables, tablesEffect};
+ghost use Rattle.into.specs.Into.{Into};
 ghost use Rattle.editing.specs.Verdicts.{Worked};
 ghost use Rattle.editing.specs.Started.{Tippings, Tumbled};
-ghost use Rattle.editing.specs.Linked.{namings, linkedTo};
 ghost use Rattle.editing.specs.Emptied.{Emptying, Emptied};
 ghost use Rattle.editing.specs.Bin.{Binning};
 use naming::Name;
 use rules::Answer;
 use rules::Refusal;
 use rules::Store;
-
-// How many of the links name p.
-fn namings(links: &[u16], p: u16) -> u16
-    requires { ⌜ length (now links) ≤ 4096 ⌝ }
-    ensures { λ r. ⌜ r ≡ namings (now (links .entry)) p (length (now (links .entry))) ⌝ }
-{
-    let mut count: u16 = 0;
-    let mut i: usize = 0;
-    while i < links.len() {
-        if links[i] == p {
-            count += 1;
-        }
-        i += 1;
-    }
-    count
-}
-
-// Whether another piece than p links to p: more places name it than its own four.
-fn is_linked(n: usize, links: &[u16], p: u16) -> bool
-    requires { ⌜ (length (now links) ≡ 4 * n) × (n ≤ 1024) × (p < n) ⌝ }
-    ensures { λ r. ⌜ r ≡ linkedTo n (now (links .entry)) p ⌝ }
-{
-    let all = namings(links, p);
-    let at = p as usize;
-    let start = Store::LINKS * at;
-    let end = start + 4;
-    let own = namings(&links[start..end], p);
-    if all != own {
-        return true;
-    }
-    false
-}
 
 // Empties the four places of draft p.
 fn empty_places(n: usize, links: &mut [u16], leaders: &[u16], counts: &mut [u32], p: usize)
@@ -117,13 +85,15 @@ pub fn bin(
     leaders: &mut [u16],
     holds: &[u16],
     counts: &mut [u32],
+    into: &mut [u16],
     list: &mut [u16],
     p: u16,
 ) -> Answer
-    requires { ⌜ Ready (tablesOf n (now states) (now links) (now leaders) (now holds) (now counts)) × (n ≤ length (now list)) ⌝ }
+    requires { ⌜ Ready (tablesOf n (now states) (now links) (now leaders) (now holds) (now counts)) × Into n (now states) (now links) (now into) × (n ≤ length (now list)) ⌝ }
     ensures { λ r. ⌜ DidTables (Bin p)
         (tablesOf n (now (states .entry)) (now (links .entry)) (now (leaders .entry)) (now (holds .entry)) (now (counts .entry))) (now (list .entry))
-        (tablesEffect (answered r) (tablesOf n (now (states .exit)) (now (links .exit)) (now (leaders .exit)) (now (holds .entry)) (now (counts .exit))) (now (list .exit))) ⌝ }
+        (tablesEffect (answered r) (tablesOf n (now (states .exit)) (now (links .exit)) (now (leaders .exit)) (now (holds .entry)) (now (counts .exit))) (now (list .exit)))
+        × Into n (now (states .exit)) (now (links .exit)) (now (into .exit)) ⌝ }
 {
     match naming::piece(n, states, p) {
         Name::Wrong(refusal) => return Answer::Refused(refusal),
@@ -133,9 +103,10 @@ pub fn bin(
     if states[at] == Store::FROZEN {
         return Answer::Refused(Refusal::State);
     }
-    if is_linked(n, links, p) {
+    if into[at] != 0 {
         return Answer::Refused(Refusal::Linked);
     }
+    into::forget(n, states, links, into, at);
     let freed = bin_draft(n, states, links, leaders, holds, counts, list, at) as u16;
     Answer::Done {
         value: Store::NONE,

@@ -29,20 +29,15 @@ pub record Countable (n : ℕ) (leaders counts : List ℕ) : Type 0 where
 pub record HoldAdded (n : ℕ) (holds leaders : List ℕ) (q : ℕ) (c c′ : List ℕ) : Type 0 where
   pub added : Added n (λ l. held holds leaders l q) c c′
 
-module _ {n : ℕ} {holds leaders counts : List ℕ} {q : ℕ} (z : Labelled n leaders counts) (k : q < n) where
-  -- q has no label
-  pub hold-miss : n ≤ leaders ! q → HoldAdded n holds leaders q counts counts
-  unfolding held
-  hold-miss h = record { added = added-none (λ l u. onlyIf-false _ (holds ! q) (ne-eqb (label leaders q) l (λ e. omega (arith, label-at z q k)))) }
-
-  -- it has one
-  pub hold-hit : leaders ! q < n → HoldAdded n holds leaders q counts (set counts (leaders ! q) (counts ! (leaders ! q) + holds ! q))
-  unfolding held
-  hold-hit h = record {
-    added =
-        added-one (leaders ! q) (holds ! q) h (z .counts-n) (onlyIf-true _ (holds ! q) (eq-eqb (label leaders q) (leaders ! q) (label-at z q k)))
-        (λ j u d. onlyIf-false _ (holds ! q) (ne-eqb (label leaders q) j (λ y. d (sym y ∙ label-at z q k))));
-  }
+-- q has label l
+pub hold-hit : {n : ℕ} {holds leaders counts : List ℕ} {q l : ℕ} → Labelled n leaders counts → q < n → l ≡ leaders ! q → l < n
+    → HoldAdded n holds leaders q counts (set counts l (counts ! l + holds ! q))
+unfolding held
+hold-hit {holds = holds} {leaders} {q = q} {l} z k e h = record {
+  added =
+      added-one l (holds ! q) h (z .counts-n) (onlyIf-true _ (holds ! q) (eq-eqb (label leaders q) l (label-at z q k ∙ sym e)))
+      (λ j u d. onlyIf-false _ (holds ! q) (ne-eqb (label leaders q) j (λ y. d (sym y ∙ label-at z q k ∙ sym e))));
+}
 
 -- the holds of one piece more fit
 pub hold-fits : {n : ℕ} {holds leaders : List ℕ} {q : ℕ} {c c′ : List ℕ} → HoldAdded n holds leaders q c c′ → holds ! q < 65536 → (l : ℕ) → l < n → c′ ! l ≤ c ! l + 65535

@@ -7,7 +7,7 @@ use Prim.Native.Nat.{ℕ, _<_}
 use native.Mathlib.Omega.{arith}
 use lib.Dec.{T, T-not, ltb, lt→ltb, ltb→lt}
 use Rattle.rules.specs.Register.{heldBy}
-use Rattle.rules.specs.Tables.{Store, storeOn, state, isFree, isFrozen, holdsOf}
+use Rattle.rules.specs.Tables.{Store, storeBy, state, isFree, isFrozen, holdsOf}
 use Rattle.rules.specs.Words.{Frozen, Well, wfree, wdraft, wfrozen}
 use Rattle.rules.specs.Commands.{pieceOf, seatOf, isFreeze, isAgain, accepted, firstOf, noSeat, seatRefusals, tableRefusals, registerRefusals, verdict}
 use Rattle.rules.specs.Commands.{edit, settles, after, nextTables, noted, nextStore}
@@ -24,6 +24,7 @@ use Rattle.laws.specs.Verdicts.{seatVerdict, registerVerdict, verdict-is}
 use Rattle.laws.specs.Calls.{double-not}
 use Rattle.register.specs.Pairs.{held-by-in}
 use Rattle.register.specs.Kept.{right-ranged}
+use Rattle.into.specs.Into.{store-follows}
 use Rattle.demands.specs.Sound.{OkStore}
 use Rattle.demands.specs.Meant.{again-looks}
 use Rattle.demands.specs.Noted.{good}
@@ -66,10 +67,11 @@ module _ {s : Store} (o : OkStore s) where
   -- it leaves the store
   pub again-stays : (c : Command) → T (isAgain s c) → nextStore s c ≡ s
   unfolding nextStore
-  again-stays c t = ap (λ (d : Command). storeOn (nextTables (s .tables) d) (noted (s .register) d)) (again-looks s c t) ∙ looked
+  again-stays c t = ap (λ (d : Command). storeBy (nextTables (s .tables) d) (noted (s .register) d)) (again-looks s c t) ∙ looked
     where
-      looked : storeOn (nextTables (s .tables) (Look (pieceOf c))) (noted (s .register) (Look (pieceOf c))) ≡ s
-      looked = unfold nextTables after settles edit noted in (λ i. storeOn (sym (determined (s .tables) (o .sized .tables) (o .sound .tables)) i) (s .register))
+      looked : storeBy (nextTables (s .tables) (Look (pieceOf c))) (noted (s .register) (Look (pieceOf c))) ≡ s
+      looked = unfold nextTables after settles edit noted in
+          (λ i. storeBy (sym (determined (s .tables) (o .sized .tables) (o .sound .tables)) i) (s .register)) ∙ sym (store-follows (o .sized) (o .sound))
 
   -- and is accepted
   pub again-accepted : (p i : ℕ) → T (isAgain s (Freeze p i)) → verdict s (Freeze p i) ≡ accepted

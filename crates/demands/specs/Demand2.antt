@@ -3,11 +3,12 @@ use mathlib.Core.Path.{_≡_, refl, sym, subst}
 use Prim.Native.Nat.{ℕ, _<_}
 use lib.Dec.{T, T-not}
 use Rattle.rules.specs.Register.{Right}
-use Rattle.rules.specs.Tables.{Store, storeOn, finish}
+use Rattle.rules.specs.Tables.{Store, storeBy, intoEntry, intoOf, finish}
 use Rattle.rules.specs.Commands.{Verdict, accepted, refused, meant, after, verdict, noted, nextTables, nextStore, settled, stepTo}
 use Rattle.rules.specs.Calls.{Call, check, Areas, Outcome, Promise}
 use Rattle.rules.specs.History.{isAccepted}
 use Rattle.rules.specs.declared.Command.{Command}
+use Rattle.laws.specs.Below.{length-table, getD-table}
 use Rattle.laws.specs.Commands.{after-n}
 use Rattle.laws.specs.Commands as tables
 use Rattle.demands.specs.Sound.{OkStore, empty-ok}
@@ -16,12 +17,13 @@ use Rattle.demands.specs.Noted.{good, by-tables, noted-sums, noted-right
 use Rattle.demands.specs.Came.{Came, stayed, emptied, stepped, tested, came}
 
 -- what is accepted leaves a sound store sound
-made-ok : (s : Store) (d : Command) → OkStore s → Accepts s d → OkStore (storeOn (nextTables (s .tables) d) (noted (s .register) d))
+made-ok : (s : Store) (d : Command) → OkStore s → Accepts s d → OkStore (storeBy (nextTables (s .tables) d) (noted (s .register) d))
 made-ok s d o v = record {
-  sized = record { tables = t .sized; register = right .ordered .size };
+  sized = record { tables = t .sized; register = right .ordered .size; into = unfold intoOf in (length-table (intoEntry (nextTables (s .tables) d .base)) (nextTables (s .tables) d .base .n)) };
   sound = record {
     tables = t .sound;
     register = unfold nextTables finish in (subst (λ (n : ℕ). Right n (noted (s .register) d)) (sym size) right);
+    into = λ p h. unfold intoOf in (getD-table (intoEntry (nextTables (s .tables) d .base)) (nextTables (s .tables) d .base .n) p 0 h);
     sums = λ p h. unfold nextTables finish in (noted-sums s o d v p (subst (λ (n : ℕ). p < n) size (unfold nextTables finish in h)));
   };
 }

@@ -17,3 +17,4 @@ pub mod Lines
 pub mod Told
 pub mod Twice
 pub mod Calling
+pub mod Linked

@@ -4,8 +4,9 @@ use mathlib.Core.List.{List}
 use Prim.Native.Nat.{ℕ, _<_}
 use lib.Seq.{ext-getD}
 use Rattle.rules.specs.Register.{heldIn}
-use Rattle.rules.specs.Tables.{Store, baseOf, storeOn, holdsOf, finish}
+use Rattle.rules.specs.Tables.{Store, baseOf, storeBy, holdsOf, finish}
 use Rattle.laws.specs.Sound.{determined}
+use Rattle.into.specs.Into.{store-follows}
 use Rattle.demands.specs.Sound.{OkStore}
 
 -- two stores that were told the same
@@ -26,6 +27,8 @@ module _ {s s′ : Store} (o : OkStore s) (o′ : OkStore s′) (e : SameTold s 
   -- leaders and counts follow from states, links and holds
   pub told-decides : s ≡ s′
   told-decides =
-      (λ i. storeOn (determined (s .tables) (o .sized .tables) (o .sound .tables) i) (s .register))
-      ∙ (λ i. storeOn (finish (baseOf (e .capacity i) (e .states i) (e .links i) (told-holds i))) (e .register i))
-      ∙ sym (λ i. storeOn (determined (s′ .tables) (o′ .sized .tables) (o′ .sound .tables) i) (s′ .register))
+      store-follows (o .sized) (o .sound)
+      ∙ (λ i. storeBy (determined (s .tables) (o .sized .tables) (o .sound .tables) i) (s .register))
+      ∙ (λ i. storeBy (finish (baseOf (e .capacity i) (e .states i) (e .links i) (told-holds i))) (e .register i))
+      ∙ sym (λ i. storeBy (determined (s′ .tables) (o′ .sized .tables) (o′ .sound .tables) i) (s′ .register))
+      ∙ sym (store-follows (o′ .sized) (o′ .sound))

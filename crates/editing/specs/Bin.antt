@@ -5,7 +5,8 @@ use mathlib.Core.Bool.{Bool, true, false, not}
 use mathlib.Core.List.{List, [], _∷_}
 use Prim.Native.Nat.{ℕ, _+_, _*_, _/_, _≤_, _<_}
 use native.Mathlib.Omega.{arith}
-use lib.Dec.{T, T-not, eqb, eqb→eq}
+use lib.Dec.{T, T-not, eqb, eqb→eq, lt→ltb}
+use borrow.Author.Tests.{le-ltb}
 use lib.ListN.{getD, length, set, length-set}
 use lib.Seq.{ext-getD}
 use Rattle.laws.specs.Numbers.{eq-or, lt-or, set-cases}
@@ -15,7 +16,7 @@ use Rattle.rules.specs.Below.{table, sum}
 use Rattle.rules.specs.Lists.{Among, first, later, _!_}
 use Rattle.rules.specs.Tables.{baseOf, Base, Tables, state, isFree, isFrozen, holdsOf}
 use Rattle.rules.specs.Words.{Frozen, Well}
-use Rattle.rules.specs.Commands.{freeAll, withStates, withLinks, edit, settles, valueOf}
+use Rattle.rules.specs.Commands.{isLinked, freeAll, withStates, withLinks, edit, settles, valueOf}
 use Rattle.rules.specs.Calls.{answered, refusedBy, acceptedBy, doneBy, Ready}
 use Rattle.rules.specs.declared.Refusal.the-variants.{Linked}
 use Rattle.rules.specs.declared.Command.the-variants.{Bin}
@@ -31,20 +32,32 @@ use Rattle.tallies.specs.Tally.{label, cross, held, placed, tally}
 use Rattle.tallies.specs.Moves.{cross-off}
 use Rattle.tallies.specs.Exact.{Exact, label-past}
 use Rattle.tallies.specs.Stores.{exact-moves, good-of, wells-of, exact-of, match-of, counted-of, holds-most}
+use Rattle.into.specs.Into.{linked-into}
+use Rattle.into.specs.Stores.{IntoBase}
 use Rattle.naming.specs.Told.{NamedPiece}
 use Rattle.falling.specs.Queue.{lengths-kept, Known}
 use Rattle.falling.specs.Fall.{Begin, OthersCounted}
 use Rattle.editing.specs.Started.{lengths-of, labelled-of, Edited}
 use Rattle.editing.specs.Names.{bin-names, names-pass, own-refused}
-use Rattle.editing.specs.Linked.{linkedTo, isLinked-is}
 use Rattle.editing.specs.Emptied.{Emptying, Emptied}
 
 -- ---- the refusal
 
-module _ {s : Tables} {list : List ℕ} {p : ℕ} (named : NamedPiece (s .base .n) (s .base .states) p) (other : s .base .states ! p ≡ 2 → ⊥) where
-  pub bin-linked : true ≡ linkedTo (s .base .n) (s .base .links) p → DidTables (Bin p) s list (tablesEffect (answered (Refused Linked)) s list)
-  unfolding refusedBy
-  bin-linked e = own-refused bin-names (named .right) Linked other (subst T (e ∙ sym (isLinked-is (s .base) p)) tt, refl)
+module _ {s : Tables} {p : ℕ} (ready : Ready s) (named : NamedPiece (s .base .n) (s .base .states) p) (other : s .base .states ! p ≡ 2 → ⊥) where
+  pub bin-draft : s .base .states ! p ≡ 1
+  unfolding state isFree isFrozen
+  bin-draft =
+      live-draft (s .base) p (wells-of s ready p (named .below)) (neqb-of {m = s .base .states ! p} {n = 0} (named .live))
+      (neqb-of {m = s .base .states ! p} {n = 2} other)
+
+  module _ {into : List ℕ} (x : IntoBase (s .base) into) where
+    pub bin-linked : {list : List ℕ} → (into ! p ≡ 0 → ⊥) → DidTables (Bin p) s list (tablesEffect (answered (Refused Linked)) s list)
+    unfolding refusedBy
+    bin-linked f = own-refused bin-names (named .right) Linked other
+        (subst T (sym (linked-into (s .base) x p (named .below) bin-draft)) (lt→ltb 0 (into ! p) (omega (arith, f))), refl)
+
+    pub bin-alone : into ! p ≡ 0 → isLinked (s .base) p ≡ false
+    bin-alone e = linked-into (s .base) x p (named .below) bin-draft ∙ le-ltb 0 (into ! p) (omega arith)
 
 -- ---- the edited base
 
@@ -54,20 +67,18 @@ pub record Binning (s : Tables) (list : List ℕ) (p : ℕ) : Type 0 where
   pub room : s .base .n ≤ length list
   pub named : NamedPiece (s .base .n) (s .base .states) p
   pub other : s .base .states ! p ≡ 2 → ⊥
-  pub alone : false ≡ linkedTo (s .base .n) (s .base .links) p
+  pub alone : isLinked (s .base) p ≡ false
 
 module _ {s : Tables} {list : List ℕ} {p : ℕ} (g : Binning s list p) where
   abbrev b : Base
   b = s .base
 
-  bin-passes : Passes b (Bin p)
-  bin-passes = names-pass bin-names (g .named .right) (g .other) (subst (λ (x : Bool). T (not x)) (g .alone ∙ sym (isLinked-is b p)) tt, tt)
+  pub bin-passes : Passes b (Bin p)
+  bin-passes = names-pass bin-names (g .named .right) (g .other) (subst (λ (x : Bool). T (not x)) (sym (g .alone)) tt, tt)
 
   draft : state b p ≡ 1
-  unfolding state isFree isFrozen
-  draft =
-      live-draft b p (wells-of s (g .ready) p (g .named .below)) (neqb-of {m = b .states ! p} {n = 0} (g .named .live))
-      (neqb-of {m = b .states ! p} {n = 2} (g .other))
+  unfolding state
+  draft = bin-draft (g .ready) (g .named) (g .other)
 
   pub emptying : Emptying (b .n) (b .links) (s .leaders) (s .counts) p
   emptying = record {
@@ -83,7 +94,7 @@ module _ {s : Tables} {list : List ℕ} {p : ℕ} (g : Binning s list p) where
   abbrev e : Base
   e = freeAll b (eqb p)
 
-  wells-e : (r : ℕ) → r < b .n → Well e r
+  pub wells-e : (r : ℕ) → r < b .n → Well e r
   unfolding edit freeAll
   wells-e = edit-well b (g .ready .sized .base) (good-of s (g .ready)) (Bin p) bin-passes
 
@@ -119,7 +130,7 @@ module _ {s : Tables} {list : List ℕ} {p : ℕ} (g : Binning s list p) where
   known-e : Known e (s .leaders)
   known-e = record { exact = exact-e; wells = unfold freeAll in wells-e }
 
-  states-are : set (b .states) p 0 ≡ e .states
+  pub states-are : set (b .states) p 0 ≡ e .states
   unfolding freeAll state
   states-are =
       ext-getD 0 (set (b .states) p 0) (table (λ r. pick (eqb p r) 0 (getD (b .states) r 0)) (b .n))
@@ -175,7 +186,7 @@ module _ {s : Tables} {list : List ℕ} {p : ℕ} (g : Binning s list p) where
         a .off i (⊎-elim (λ y. inl y) (λ y. inr (omega arith)) (lt-or i (4 * p))) ∙ sym (pick-false (eqb p (i / 4)) none (getD (b .links) i 0) t))
         (T-dec (eqb p (i / 4))) ∙ sym (getD-table (λ i. pick (eqb p (i / 4)) none (getD (b .links) i 0)) (4 * b .n) i 0 l))
 
-    base-is : e₁ ≡ e
+    pub base-is : e₁ ≡ e
     unfolding freeAll withLinks withStates
     base-is = λ i. baseOf (b .n) (states-are i) (links-are i) (holds-are i)
 

@@ -4,6 +4,6 @@ pub mod Started
 pub mod Holds
 pub mod Relink
 pub mod Set
-pub mod Linked
 pub mod Emptied
 pub mod Bin
+pub mod Into

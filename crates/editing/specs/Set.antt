@@ -43,7 +43,7 @@ module _ {s : Tables} {list : List ℕ} {p k t : ℕ} (g : Setting s list p k t)
   abbrev e : Base
   e = withLinks b (set (b .links) i t)
 
-  set-passes : Passes b (Set p k t)
+  pub set-passes : Passes b (Set p k t)
   set-passes = names-pass set-names (g .named .right) (g .other) tt
 
   draft : state b p ≡ 1
@@ -52,7 +52,7 @@ module _ {s : Tables} {list : List ℕ} {p k t : ℕ} (g : Setting s list p k t)
       live-draft b p (wells-of s (g .ready) p (g .named .below)) (neqb-of {m = b .states ! p} {n = 0} (g .named .live))
       (neqb-of {m = b .states ! p} {n = 2} (g .other))
 
-  own : i / 4 ≡ p
+  pub own : i / 4 ≡ p
   own = omega (arith, g .named .inside)
 
   pub relinking : Relinking (b .n) (b .links) (s .leaders) (s .counts) i t
@@ -66,11 +66,11 @@ module _ {s : Tables} {list : List ℕ} {p k t : ℕ} (g : Setting s list p k t)
     matches = match-of s (g .ready);
   }
 
-  edit-is : e ≡ edit b (Set p k t)
+  pub edit-is : e ≡ edit b (Set p k t)
   unfolding edit
   edit-is = refl
 
-  wells-e : (q : ℕ) → q < e .n → Well e q
+  pub wells-e : (q : ℕ) → q < e .n → Well e q
   wells-e =
       subst (λ (x : Base). (q : ℕ) → q < x .n → Well x q) (sym edit-is) (edit-well b (g .ready .sized .base) (good-of s (g .ready)) (Set p k t) set-passes)
 

@@ -8,7 +8,7 @@ use lib.Dec.{T, leb}
 use lib.ListN.{length}
 use borrow.Author.Tests.{le-leb}
 use Rattle.rules.specs.Tests.{_&_, _or_, pick}
-use Rattle.rules.specs.Tables.{Tables, Store, storeOn, isSoundStore}
+use Rattle.rules.specs.Tables.{Tables, Store, storeOn, storeBy, isSoundStore}
 use Rattle.rules.specs.Commands.{namesSeat, accepted, firstOf, settles}
 use Rattle.rules.specs.Calls.{Call, does, check, Areas, areasOf, Reply, checked, outcome, effect, Promise, Did}
 use Rattle.rules.specs.Calls.{takesList, takesWork, isSizedStore, isLent, laterRefusals, callRefusals, judge, refusedBy, refusedCall, acceptedCall, clear, cleared}
@@ -20,9 +20,10 @@ use Rattle.laws.specs.Below.{pick-true, pick-false}
 use Rattle.laws.specs.Calls.{double-not, accepted-outcome, through, flawed, short}
 use Rattle.laws.specs.ByTables.{DidTables, tablesEffect}
 use Rattle.laws.specs.Verdicts.{bare-did, any-list}
+use Rattle.into.specs.Stores.{IntoBase, with-into, leavesInto, into-ready, still-into}
 use Rattle.entering.specs.declared.Entry.{Entry}
 use Rattle.entering.specs.declared.Entry.the-variants.{Short, Flawed, Sound}
-use Rattle.entering.specs.Entered.{fits, Entered, began-by}
+use Rattle.entering.specs.Entered.{fits, Entered, began-by, entered-ready}
 
 -- ---- the arms of a call that takes work
 
@@ -71,15 +72,23 @@ module _ {s : Store} {l w w′ : List ℕ} {r : Entry} where
     unlisted-arm off x is d same = sound-arm x is (any-list off d) same
 
 -- a command that names no seat has done its work on the tables, and left the register as it was
-module _ {t : Tables} {register l w w′ : List ℕ} {r : Entry} {c : Command} where
-  pub tables-arm : {a : Reply} {t′ : Tables} {l′ w″ : List ℕ} → namesSeat c ≡ false → Entered (storeOn t register) (roomOf (does c) (storeOn t register) l) w r w′ → r ≡ Sound
-      → DidTables c t l (tablesEffect a t′ l′) → w″ ≡ w′ → Promise (does c) (areasOf (storeOn t register) l w) (outcome a (areasOf (storeOn t′ register) l′ w″))
-  tables-arm bare x is d same = sound-arm x is (bare-did bare d) same
+module _ {t : Tables} {register into l w w′ : List ℕ} {r : Entry} {c : Command}
+    (x : Entered (storeOn t register into) (roomOf (does c) (storeOn t register into) l) w r w′) (is : r ≡ Sound) where
+  -- it kept the links into each draft right
+  pub tables-arm : {a : Reply} {t′ : Tables} {into′ l′ w″ : List ℕ} → namesSeat c ≡ false
+      → DidTables c t l (tablesEffect a t′ l′) × IntoBase (t′ .base) into′ → w″ ≡ w′
+      → Promise (does c) (areasOf (storeOn t register into) l w) (outcome a (areasOf (storeOn t′ register into′) l′ w″))
+  tables-arm bare d same = sound-arm x is (with-into (into-ready (entered-ready x is)) (d .1) (bare-did bare (d .0))) same
 
-  pub tables-unlisted-arm : {a : Reply} {t′ : Tables} {w″ : List ℕ} → namesSeat c ≡ false → settles c ≡ false
-      → Entered (storeOn t register) (roomOf (does c) (storeOn t register) l) w r w′ → r ≡ Sound
-      → DidTables c t [] (tablesEffect a t′ []) → w″ ≡ w′ → Promise (does c) (areasOf (storeOn t register) l w) (outcome a (areasOf (storeOn t′ register) l w″))
-  tables-unlisted-arm bare off x is d same = unlisted-arm off x is (bare-did bare d) same
+  -- or left them
+  pub still-arm : {a : Reply} {t′ : Tables} {register′ l′ w″ : List ℕ} → leavesInto c ≡ true → Did c (storeBy t register) l (effect a (storeBy t′ register′) l′) → w″ ≡ w′
+      → Promise (does c) (areasOf (storeOn t register into) l w) (outcome a (areasOf (storeOn t′ register′ into) l′ w″))
+  still-arm leaves d same = sound-arm x is (still-into leaves (entered-ready x is) d) same
+
+  pub still-unlisted-arm : {a : Reply} {t′ : Tables} {register′ w″ : List ℕ} → leavesInto c ≡ true → settles c ≡ false
+      → Did c (storeBy t register) [] (effect a (storeBy t′ register′) []) → w″ ≡ w′
+      → Promise (does c) (areasOf (storeOn t register into) l w) (outcome a (areasOf (storeOn t′ register′ into) l w″))
+  still-unlisted-arm leaves off d same = still-arm leaves (any-list off d) same
 
 -- ---- check; it and start are refused by SIZE alone
 

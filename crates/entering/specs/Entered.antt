@@ -8,11 +8,13 @@ use lib.Dec.{T, leb, leb→le, le→leb}
 use lib.ListN.{length, getD, drop, replicate, length-append, length-replicate, getD-replicate}
 use lib.Seq.{getD-take, take-append-seam}
 use Rattle.rules.specs.Tests.{_&_}
-use Rattle.rules.specs.Tables.{Store, isSoundStore}
+use Rattle.rules.specs.Tables.{Store, storeBy, isSoundStore}
 use Rattle.rules.specs.Words.{SizedStore}
 use Rattle.rules.specs.Calls.{isSizedStore, clear, Clear, Ready, ReadyStore}
+use Rattle.areas.specs.Filled.{front-zeros}
 use Rattle.laws.specs.Tests.{and-both, and-left, and-right}
 use Rattle.laws.specs.Calls.{sized-store→, →sized-store, ready-tables}
+use Rattle.into.specs.Stores.{IntoBase, into-ready, ready-by}
 use Rattle.demands.specs.Sound.{sound-store→}
 use Rattle.entering.specs.declared.Entry.{Entry}
 use Rattle.entering.specs.declared.Entry.the-variants.{Short, Flawed, Sound}
@@ -63,7 +65,7 @@ module _ {s : Store} {room : ℕ} {work : List ℕ} where
       and-both (isSizedStore s) _ (→sized-store s (z .least) (z .sized))
       (and-both (leb n room) _ (le→leb n room (z .listed)) (le→leb (8 * n) (length work) (z .worked)))
 
--- ---- what the inner door asks: a sound store, with N entries of list or with work clear
+-- ---- what the inner door asks: a sound store, with N entries of list or with 8N of work
 
 pub work-clear : (n : ℕ) (work : List ℕ) → 8 * n ≤ length work → Clear n (clear n work)
 unfolding clear
@@ -88,12 +90,27 @@ module _ {s : Store} {room : ℕ} {work work′ : List ℕ} {r : Entry} (x : Ent
   pub entered-listed : ReadyStore s × (s .tables .base .n ≤ room)
   entered-listed = (entered-ready, fits→ (began-by x is .0) .listed)
 
-  pub entered-clear : ReadyStore s × Clear (s .tables .base .n) work′
-  entered-clear = let b = began-by x is in (entered-ready, rw (b .2) (work-clear (s .tables .base .n) work (fits→ (b .0) .worked)))
+  entered-clear : Clear (s .tables .base .n) work′
+  entered-clear = let b = began-by x is in rw (b .2) (work-clear (s .tables .base .n) work (fits→ (b .0) .worked))
+
+  pub entered-wide : ReadyStore s × (8 * s .tables .base .n ≤ length work′)
+  entered-wide = (entered-ready, entered-clear .size)
+
+  -- what a freeze left in work is cleared away
+  pub cleared-again : {work₁ : List ℕ} → work₁ ≡ replicate (8 * s .tables .base .n) 0 ++ drop (8 * s .tables .base .n) work′ → work₁ ≡ work′
+  cleared-again e = e ∙ front-zeros (8 * s .tables .base .n) work′ (entered-clear .size) (entered-clear .zeros)
 
   -- the rooms below the register ask it of the tables
   pub entered-tables : Ready (s .tables)
   entered-tables = ready-tables entered-ready
 
-  pub entered-tables-listed : Ready (s .tables) × (s .tables .base .n ≤ room)
-  entered-tables-listed = (entered-tables, entered-listed .1)
+  -- and those that keep the links into each draft ask it of these too
+  pub entered-tables-listed : Ready (s .tables) × IntoBase (s .tables .base) (s .into) × (s .tables .base .n ≤ room)
+  entered-tables-listed = (entered-tables, into-ready entered-ready, entered-listed .1)
+
+  -- the rooms that leave them ask it of the store that follows from its tables and its register
+  pub entered-by : ReadyStore (storeBy (s .tables) (s .register))
+  entered-by = ready-by entered-ready
+
+  pub entered-by-listed : ReadyStore (storeBy (s .tables) (s .register)) × (s .tables .base .n ≤ room)
+  entered-by-listed = (entered-by, entered-listed .1)

@@ -1,5 +1,5 @@
 -- How a call begins, from its tests: the sizes, the tables, and the register beside them.
-use mathlib.Core.Path.{_≡_, refl, sym, ap, _∙_, subst}
+use mathlib.Core.Path.{_≡_, refl, sym, ap, ap₂, _∙_, subst}
 use mathlib.Core.Bool.{Bool, true, false, not}
 use mathlib.Core.List.{List}
 use Prim.Native.Nat.{ℕ, _*_, _≤_, _<_}
@@ -12,7 +12,7 @@ use Rattle.rules.specs.Limits.{entries}
 use Rattle.rules.specs.Lists.{_!_}
 use Rattle.rules.specs.Below.{every}
 use Rattle.rules.specs.Register.{isRight, heldIn}
-use Rattle.rules.specs.Tables.{Tables, Store, storeOn, holdsOf, isSound, sumsRight, isSoundStore}
+use Rattle.rules.specs.Tables.{Tables, Store, storeOn, holdsOf, isSound, sumsRight, intoRight, isSoundStore}
 use Rattle.rules.specs.Words.{SizedStore}
 use Rattle.rules.specs.Calls.{isSized, isSizedStore, clear}
 use Rattle.laws.specs.Tests.{and-both}
@@ -22,19 +22,27 @@ use Rattle.entering.specs.Entered.{fits, Entered, Fitted, fits→, →fi
 
 -- ---- sizes
 
--- a register that has not its length
-pub sized-no : (t : Tables) (register : List ℕ) → (length register ≡ entries → ⊥) → false ≡ isSizedStore (storeOn t register)
-unfolding isSizedStore
-sized-no t register h = sym (ap (λ (b : Bool). isSized t & b) (ne-eqb (length register) entries h) ∙ none (isSized t))
-  where
-    none : (b : Bool) → (b & false) ≡ false
-    none true = refl
-    none false = refl
+no-more : (b : Bool) → (b & false) ≡ false
+no-more true = refl
+no-more false = refl
 
--- beside one that has, the tables decide
-pub sized-by : (t : Tables) (register : List ℕ) {r : Bool} → length register ≡ entries → r ≡ isSized t → r ≡ isSizedStore (storeOn t register)
+-- a register that has not its length
+pub sized-no : (t : Tables) (register into : List ℕ) → (length register ≡ entries → ⊥) → false ≡ isSizedStore (storeOn t register into)
 unfolding isSizedStore
-sized-by t register h e = e ∙ sym (ap (λ (b : Bool). isSized t & b) (eq-eqb (length register) entries h) ∙ same (isSized t))
+sized-no t register into h = sym (ap (λ (b : Bool). isSized t & b & eqb (length into) (t .base .n)) (ne-eqb (length register) entries h) ∙ no-more (isSized t))
+
+-- links into the drafts that have not theirs
+pub sized-not : (t : Tables) (register into : List ℕ) → (length into ≡ t .base .n → ⊥) → false ≡ isSizedStore (storeOn t register into)
+unfolding isSizedStore
+sized-not t register into h = sym
+    (ap (λ (b : Bool). isSized t & eqb (length register) entries & b) (ne-eqb (length into) (t .base .n) h)
+    ∙ ap (λ (b : Bool). isSized t & b) (no-more (eqb (length register) entries)) ∙ no-more (isSized t))
+
+-- beside both with theirs, the tables decide
+pub sized-by : (t : Tables) (register into : List ℕ) {r : Bool} → length register ≡ entries → length into ≡ t .base .n → r ≡ isSized t → r ≡ isSizedStore (storeOn t register into)
+unfolding isSizedStore
+sized-by t register into h k e =
+    e ∙ sym (ap₂ (λ (b c : Bool). isSized t & b & c) (eq-eqb (length register) entries h) (eq-eqb (length into) (t .base .n) k) ∙ same (isSized t))
   where
     same : (b : Bool) → (b & true) ≡ b
     same true = refl
@@ -60,10 +68,24 @@ abbrev pub agrees : Store → Bool
 agrees s =
     isRight (s .tables .base .n) (s .register) & every (λ p. eqb (s .tables .base .holds ! p) (heldIn (s .register) p)) (s .tables .base .n)
 
--- the tables and the register decide
-sound-is : (s : Store) → isSoundStore s ≡ (isSound (s .tables) & agrees s)
+-- the tables' own, with the links into each draft
+abbrev pub follows : Store → Bool
+follows s = isSound (s .tables) & intoRight (s .tables .base) (s .into)
+
+-- both decide
+sound-is : (s : Store) → isSoundStore s ≡ (follows s & agrees s)
 unfolding isSoundStore sumsRight holdsOf
-sound-is s = refl
+sound-is s = turn (isSound (s .tables)) (isRight (s .tables .base .n) (s .register)) _ (intoRight (s .tables .base) (s .into))
+  where
+    turn : (a b c d : Bool) → (a & b & c & d) ≡ ((a & d) & b & c)
+    turn true true true d = same d
+      where
+        same : (d : Bool) → d ≡ (d & true)
+        same true = refl
+        same false = refl
+    turn true true false d = sym (no-more d)
+    turn true false c d = sym (no-more d)
+    turn false b c d = refl
 
 module _ {s : Store} {room : ℕ} {work : List ℕ} where
   -- a size is wrong
@@ -93,23 +115,23 @@ module _ {s : Store} {room : ℕ} {work : List ℕ} where
       let least : n ≤ length (clear n work) = omega (arith, x .size) in
       rw w (z .sized .tables .base .most, z .sized .register, z .sized .tables .base .holds, least, λ p h. x .zeros p (omega arith))
 
-  -- the tables are not sound
-  pub judged-flawed : {r : Bool} {work′ : List ℕ} → Fitted s room work → not r ≡ true → r ≡ isSound (s .tables) → work′ ≡ clear (s .tables .base .n) work
+  -- the tables are not sound, or the links into a draft are not right
+  pub judged-flawed : {r : Bool} {work′ : List ℕ} → Fitted s room work → not r ≡ true → r ≡ follows s → work′ ≡ clear (s .tables .base .n) work
       → Entered s room work Flawed work′
-  judged-flawed z e f w = record { began = (→fits z, rw sound-is (go (isSound (s .tables)) (agrees s) (denied e f)), w) }
+  judged-flawed z e f w = record { began = (→fits z, rw sound-is (go (follows s) (agrees s) (denied e f)), w) }
     where
       go : (b c : Bool) → T (not b) → T (not (b & c))
       go true c t = absurd t
       go false c t = tt
 
   -- they are, and the register decides
-  module _ {r a : Bool} {work′ work″ : List ℕ} (z : Fitted s room work) (e : not r ≡ false) (f : r ≡ isSound (s .tables)) (w : work′ ≡ clear (s .tables .base .n) work)
+  module _ {r a : Bool} {work′ work″ : List ℕ} (z : Fitted s room work) (e : not r ≡ false) (f : r ≡ follows s) (w : work′ ≡ clear (s .tables .base .n) work)
       (g : a ≡ agrees s) (same : work″ ≡ work′) where
     pub judged-sound : a ≡ true → Entered s room work Sound work″
-    judged-sound is = record { began = (→fits z, rw sound-is (and-both (isSound (s .tables)) (agrees s) (granted e f) (subst T (sym is ∙ g) tt)), same ∙ w) }
+    judged-sound is = record { began = (→fits z, rw sound-is (and-both (follows s) (agrees s) (granted e f) (subst T (sym is ∙ g) tt)), same ∙ w) }
 
     pub judged-apart : a ≡ false → Entered s room work Flawed work″
-    judged-apart is = record { began = (→fits z, rw sound-is (go (isSound (s .tables)) (agrees s) (subst (λ (b : Bool). T (not b)) (sym is ∙ g) tt)), same ∙ w) }
+    judged-apart is = record { began = (→fits z, rw sound-is (go (follows s) (agrees s) (subst (λ (b : Bool). T (not b)) (sym is ∙ g) tt)), same ∙ w) }
       where
         go : (b c : Bool) → T (not c) → T (not (b & c))
         go true c t = t

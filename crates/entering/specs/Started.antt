@@ -47,10 +47,15 @@ filled t t′ z f = λ i. record {
   counts = full 0 (t .counts) (z .counts) (f .counts) i;
 }
 
--- with no line of the register used
-emptied : {s s′ : Store} → SizedStore s → Filled (s .tables) (s′ .tables) → s′ .register ≡ replicate entries 0 → s′ ≡ empty (s .tables .base .n)
+-- with no line of the register used, and nothing named
+emptied : {s s′ : Store} → SizedStore s → Filled (s .tables) (s′ .tables) → s′ .register ≡ replicate entries 0 → Fills (s .tables .base .n) 0 (s .into) (s′ .into)
+    → s′ ≡ empty (s .tables .base .n)
 unfolding empty
-emptied {s} {s′} z f e = λ i. record { tables = filled (s .tables) (s′ .tables) (z .tables) f i; register = e i }
+emptied {s} {s′} z f e g = λ i. record {
+  tables = filled (s .tables) (s′ .tables) (z .tables) f i;
+  register = e i;
+  into = full 0 (s .into) (z .into) g i;
+}
 
 start-lent : (s : Store) → isLent (areasOf s [] []) start ≡ isSizedStore s
 unfolding isLent takesList takesWork
@@ -66,10 +71,10 @@ unfolding refusedCall
 start-short {s} e f = short (areasOf s [] []) start (rw start-lent (denied e f))
 
 pub start-done : {s s′ : Store} {r : Bool} {a : Answer} → not r ≡ false → r ≡ isSizedStore s → a ≡ fresh → Filled (s .tables) (s′ .tables)
-    → s′ .register ≡ replicate entries 0 → Promise start (areasOf s [] []) (outcome (answered a) (areasOf s′ [] []))
+    → s′ .register ≡ replicate entries 0 → Fills (s .tables .base .n) 0 (s .into) (s′ .into) → Promise start (areasOf s [] []) (outcome (answered a) (areasOf s′ [] []))
 unfolding acceptedCall cleared takesWork
-start-done {s} {s′} e f is at none = record {
+start-done {s} {s′} e f is at none named = record {
   exact =
-      (λ i. outcome (answered (is i)) (areasOf (emptied (sizes e f .1) at none i) [] []))
+      (λ i. outcome (answered (is i)) (areasOf (emptied (sizes e f .1) at none named i) [] []))
       ∙ sym (accepted-outcome (areasOf s [] []) start (lent-accepted _ start (unfold laterRefusals in refl) (rw start-lent (granted e f))));
 }

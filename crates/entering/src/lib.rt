@@ -24,11 +24,15 @@ pub fn sized(
     holds: &[u16],
     counts: &[u32],
     register: &[u16],
+    into: &[u16],
 ) -> bool
     ensures { λ r. ⌜ r ≡ isSizedStore
-        (storeOf n (now (states .entry)) (now (links .entry)) (now (leaders .entry)) (now (holds .entry)) (now (counts .entry)) (now (register .entry))) ⌝ }
+        (storeOf n (now (states .entry)) (now (links .entry)) (now (leaders .entry)) (now (holds .entry)) (now (counts .entry)) (now (register .entry)) (now (into .entry))) ⌝ }
 {
     if register.len() != Store::ENTRIES {
+        return false;
+    }
+    if into.len() != n {
         return false;
     }
     areas::sized(n, states, links, leaders, holds, counts)
@@ -43,14 +47,15 @@ pub fn enter(
     holds: &[u16],
     counts: &[u32],
     register: &[u16],
+    into: &[u16],
     room: usize,
     work: &mut [u32],
 ) -> Entry
     ensures { λ r. ⌜ Entered
-        (storeOf n (now (states .entry)) (now (links .entry)) (now (leaders .entry)) (now (holds .entry)) (now (counts .entry)) (now (register .entry))) room
+        (storeOf n (now (states .entry)) (now (links .entry)) (now (leaders .entry)) (now (holds .entry)) (now (counts .entry)) (now (register .entry)) (now (into .entry))) room
         (now (work .entry)) r (now (work .exit)) ⌝ }
 {
-    if !sized(n, states, links, leaders, holds, counts, register) {
+    if !sized(n, states, links, leaders, holds, counts, register, into) {
         return Entry::Short;
     }
     if room < n {
@@ -59,7 +64,7 @@ pub fn enter(
     if work.len() < 8 * n {
         return Entry::Short;
     }
-    if !sound::is_sound(n, states, links, leaders, holds, counts, work) {
+    if !sound::is_sound(n, states, links, leaders, holds, counts, into, work) {
         return Entry::Flawed;
     }
     if register::agrees(n, register, holds, work) {

@@ -8,4 +8,10 @@ pub mod Final
 pub mod Fall
 pub mod Listing
 pub mod Spans
+pub mod Apart
+pub mod Sorting
+pub mod Sinking
+pub mod Once
+pub mod Risen
+pub mod Ordered
 pub mod Freed

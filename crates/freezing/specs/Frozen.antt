@@ -21,16 +21,15 @@ use Rattle.laws.specs.Below.{T-dec, pick-true, pick-false, length-table, getD-t
 use Rattle.laws.specs.Words.{end-below, isDraft→, →isDraft, not-frozen, reaches→, →reaches}
 use Rattle.laws.specs.Sound.{Good}
 use Rattle.laws.specs.Edits.Freeze.{freeze-first-good}
-use Rattle.paths.specs.Search.{finishedMark}
 use Rattle.paths.specs.Classes.{frozen-stays, lead-leader}
-use Rattle.groups.specs.Grouped.{Grouped, ReachedFrom}
 use Rattle.tallies.specs.Sums.{getD-any}
 use Rattle.tallies.specs.Tally.{label, CountsMatch}
 use Rattle.tallies.specs.Exact.{Exact}
 use Rattle.tallies.specs.Stores.{good-of, exact-of}
 use Rattle.tallies.specs.Finished.{finished}
-use Rattle.recounting.specs.MadeFrozen.{MadeFrozen}
+use Rattle.recounting.specs.Fresh.{Stands, MadeFrozen}
 use Rattle.freezing.specs.Freezable.{Freezable}
+use Rattle.freezing.specs.Assembled.{Assembled}
 
 module _ {s : Tables} {work : List ℕ} {p : ℕ} (d : Freezable s work p) where
   abbrev b : Base
@@ -50,13 +49,14 @@ module _ {s : Tables} {work : List ℕ} {p : ℕ} (d : Freezable s work p) where
   unfolding b′ state
   good′ = freeze-first-good b (d .ready .sized .base) good p (d .below) (d .is)
 
-  module _ {work′ states′ leaders′ : List ℕ} (m : Grouped (s .base .n) (s .base .links) (ReachedFrom (s .base .n) (s .base .states) (s .base .links) 1 p) work work′)
-      (t : MadeFrozen (s .base .n) (s .base .states) (s .leaders) work′ (s .base .n) states′ leaders′) where
-    finds : (q : ℕ) → q < n → T (isDraft b q & reaches b p q) → work′ ! q ≡ finishedMark
+  module _ {leaders₁ work′ : List ℕ} {size : ℕ} {states′ leaders′ : List ℕ}
+      (m : Assembled (s .base .n) (s .base .states) (s .base .links) (s .leaders) p leaders₁ work′ size)
+      (t : MadeFrozen (s .base .n) (s .base .states) leaders₁ work′ size states′ leaders′) where
+    finds : (q : ℕ) → q < n → T (isDraft b q & reaches b p q) → Stands n work′ size q
     unfolding linkAt state
     finds q h u = m .all q h (isDraft→ b q h (and-left (isDraft b q) (reaches b p q) u) .is, reaches→ b p q (and-right (isDraft b q) (reaches b p q) u))
 
-    turns : (q : ℕ) → q < n → work′ ! q ≡ finishedMark → T (isDraft b q & reaches b p q)
+    turns : (q : ℕ) → q < n → Stands n work′ size q → T (isDraft b q & reaches b p q)
     unfolding linkAt state
     turns q h e = let r = m .«only» q h e in and-both (isDraft b q) (reaches b p q) (→isDraft b q (r .0)) (→reaches b p q h (r .1))
 
@@ -64,17 +64,17 @@ module _ {s : Tables} {work : List ℕ} {p : ℕ} (d : Freezable s work p) where
     unfolding state
     state-at q h = ⊎-elim
         (λ u. t .on q h (finds q h u) .0 ∙ sym (pick-true (isDraft b q & reaches b p q) 2 (b .states ! q) u))
-        (λ u. t .off q (inr (λ e. T-not (isDraft b q & reaches b p q) u (turns q h e))) .0 ∙ sym (pick-false (isDraft b q & reaches b p q) 2 (b .states ! q) u))
+        (λ u. t .off q (λ e. T-not (isDraft b q & reaches b p q) u (turns q h e)) .0 ∙ sym (pick-false (isDraft b q & reaches b p q) 2 (b .states ! q) u))
         (T-dec (isDraft b q & reaches b p q))
 
     states-are : states′ ≡ b′ .states
     unfolding b′ freezeFirst
     states-are =
-        ext-getD 0 states′ (table (λ q. pick (isDraft b q & reaches b p q) 2 (state b q)) n) (size ∙ sym (length-table _ n))
-        (λ q h. let k : q < n = subst (λ (x : ℕ). q < x) size h in state-at q k ∙ sym (getD-table (λ q. pick (isDraft b q & reaches b p q) 2 (state b q)) n q 0 k))
+        ext-getD 0 states′ (table (λ q. pick (isDraft b q & reaches b p q) 2 (state b q)) n) (states-n ∙ sym (length-table _ n))
+        (λ q h. let k : q < n = subst (λ (x : ℕ). q < x) states-n h in state-at q k ∙ sym (getD-table (λ q. pick (isDraft b q & reaches b p q) 2 (state b q)) n q 0 k))
       where
-        size : length states′ ≡ n
-        size = t .states-n ∙ d .ready .sized .base .states
+        states-n : length states′ ≡ n
+        states-n = t .states-n ∙ d .ready .sized .base .states
 
     state-is : (q : ℕ) → state b′ q ≡ states′ ! q
     unfolding state
@@ -84,7 +84,7 @@ module _ {s : Tables} {work : List ℕ} {p : ℕ} (d : Freezable s work p) where
     old = exact-of s (d .ready)
 
     leaders-size : length leaders′ ≡ n
-    leaders-size = t .leaders-n ∙ d .ready .sized .leaders
+    leaders-size = t .leaders-n ∙ m .leaders-n ∙ d .ready .sized .leaders
 
     label-at : (q : ℕ) → q < n → label leaders′ q ≡ leaders′ ! q
     label-at q h = getD-any leaders′ q none 0 (omega (arith, leaders-size))
@@ -120,7 +120,7 @@ module _ {s : Tables} {work : List ℕ} {p : ℕ} (d : Freezable s work p) where
         was-frozen q f u = sym (state-at q (f .below) ∙ pick-false (isDraft b q & reaches b p q) 2 (state b q) u) ∙ sym (state-is q) ∙ f .is
 
         not-marked : (q : ℕ) → q < n → T (not (isDraft b q & reaches b p q)) → leaders′ ! q ≡ s .leaders ! q
-        not-marked q h u = t .off q (inr (λ e. T-not (isDraft b q & reaches b p q) u (turns q h e))) .1
+        not-marked q h u = t .off q (λ e. T-not (isDraft b q & reaches b p q) u (turns q h e)) .1 ∙ m .left q h (λ e. T-not (isDraft b q & reaches b p q) u (turns q h e))
 
         stays : (q : ℕ) → Frozen b′ q → T (not (isDraft b q & reaches b p q)) → Leader b′ q (label leaders′ q)
         stays q f u =

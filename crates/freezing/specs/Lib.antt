@@ -1,6 +1,7 @@
 pub mod Freezable
-pub mod Joined
-pub mod Lone
+pub mod Unmarked
+pub mod Found
+pub mod Assembled
 pub mod Counted
 pub mod Frozen
 pub mod Whole

@@ -6,7 +6,7 @@ use native.Mathlib.Omega.{arith}
 use lib.Dec.{T}
 use Rattle.rules.specs.Lists.{_!_}
 use Rattle.rules.specs.Register.{heldBy}
-use Rattle.rules.specs.Tables.{Store, storeOf, state}
+use Rattle.rules.specs.Tables.{Store, tablesOf, storeBy, state}
 use Rattle.rules.specs.Words.{Frozen}
 use Rattle.rules.specs.Commands.{Verdict, accepted, refused, firstOf, isAgain, settles, freedBy, valueOf, verdict, nextStore}
 use Rattle.rules.specs.Calls.{answered, acceptedBy, doneBy, listing, fresh, effect, effected, effectOf, ReadyStore, Did}
@@ -43,29 +43,29 @@ same-did s o p seat a some is = record { exact = done ∙ ap (effected s [] (Fre
 frozen : (s : Store) (o : OkStore s) (p seat : ℕ) → T (isAgain s (Freeze p seat)) → Frozen (s .tables .base) p
 frozen s o p seat t = held-frozen o seat p (again-held s (Freeze p seat) t)
 
-module _ {n p seat : ℕ} {states links leaders holds counts register : List ℕ} (ready : ReadyStore (storeOf n states links leaders holds counts register)) where
+module _ {n p seat : ℕ} {states links leaders holds counts register : List ℕ} (ready : ReadyStore (storeBy (tablesOf n states links leaders holds counts) register)) where
   pub twice-did : {a : Answer} → (heldBy register seat p ≡ 0 → ⊥) → a ≡ fresh
-      → Did (Freeze p seat) (storeOf n states links leaders holds counts register) []
-      (effect (answered a) (storeOf n states links leaders holds counts register) [])
-  twice-did {a} some is = same-did (storeOf n states links leaders holds counts register) (ok-of ready) p seat a (omega (arith, some)) is
+      → Did (Freeze p seat) (storeBy (tablesOf n states links leaders holds counts) register) []
+      (effect (answered a) (storeBy (tablesOf n states links leaders holds counts) register) [])
+  twice-did {a} some is = same-did (storeBy (tablesOf n states links leaders holds counts) register) (ok-of ready) p seat a (omega (arith, some)) is
 
   -- not by a seat without a hold
-  pub first-itself : heldBy register seat p ≡ 0 → Itself (storeOf n states links leaders holds counts register) (Freeze p seat)
-  first-itself e = itself-by (storeOf n states links leaders holds counts register) (Freeze p seat)
-      (λ t. omega (arith, again-held (storeOf n states links leaders holds counts register) (Freeze p seat) t))
+  pub first-itself : heldBy register seat p ≡ 0 → Itself (storeBy (tablesOf n states links leaders holds counts) register) (Freeze p seat)
+  first-itself e = itself-by (storeBy (tablesOf n states links leaders holds counts) register) (Freeze p seat)
+      (λ t. omega (arith, again-held (storeBy (tablesOf n states links leaders holds counts) register) (Freeze p seat) t))
 
   -- not of a draft
-  pub draft-itself : states ! p ≡ 1 → Itself (storeOf n states links leaders holds counts register) (Freeze p seat)
+  pub draft-itself : states ! p ≡ 1 → Itself (storeBy (tablesOf n states links leaders holds counts) register) (Freeze p seat)
   unfolding state
-  draft-itself e = itself-by (storeOf n states links leaders holds counts register) (Freeze p seat)
-      (λ t. omega (arith, frozen (storeOf n states links leaders holds counts register) (ok-of ready) p seat t .is))
+  draft-itself e = itself-by (storeBy (tablesOf n states links leaders holds counts) register) (Freeze p seat)
+      (λ t. omega (arith, frozen (storeBy (tablesOf n states links leaders holds counts) register) (ok-of ready) p seat t .is))
 
   -- not of a number that names no piece
-  pub wrong-itself : {q : Refusal} → firstOf (pieceRows n states p) ≡ refused q → Itself (storeOf n states links leaders holds counts register) (Freeze p seat)
+  pub wrong-itself : {q : Refusal} → firstOf (pieceRows n states p) ≡ refused q → Itself (storeBy (tablesOf n states links leaders holds counts) register) (Freeze p seat)
   unfolding state
   wrong-itself {q} e =
-      itself-by (storeOf n states links leaders holds counts register) (Freeze p seat)
-      (λ t. let f = frozen (storeOf n states links leaders holds counts register) (ok-of ready) p seat t in other (piece-right (f .below) (λ z. omega (arith, f .is)) .exact ∙ e))
+      itself-by (storeBy (tablesOf n states links leaders holds counts) register) (Freeze p seat)
+      (λ t. let f = frozen (storeBy (tablesOf n states links leaders holds counts) register) (ok-of ready) p seat t in other (piece-right (f .below) (λ z. omega (arith, f .is)) .exact ∙ e))
     where
       other : _≡_ {A = Verdict} accepted (refused q) → ⊥
       other x = let z : _≡_ {A = ℕ} 0 1 = cc x in omega arith

@@ -8,7 +8,7 @@ use lib.ListN.{length, set, length-set}
 use lib.Seq.{getD-set-same, getD-set-other}
 use Rattle.rules.specs.Reach.{Link}
 use Rattle.rules.specs.Lists.{_!_}
-use Rattle.paths.specs.Ground.{Ground, ground, Way, one-step}
+use Rattle.paths.specs.Ground.{Ground, ground, Way, Reached, reached-next, one-step}
 use Rattle.paths.specs.Search.{finishedMark, Regions, Invariant, measure, rest}
 use Rattle.paths.specs.Sums.{count-le}
 use Rattle.paths.specs.Moves.Bump.{bumped, bump}
@@ -53,8 +53,12 @@ module _ {n : ℕ} {ss ls : List ℕ} {k : ℕ} {w : List ℕ} {a : At} (G : Und
   pub place-is : view n w a .next ! a .piece ≡ a .place
   place-is = getD-set-same (part n n w) (a .piece) (a .place) 0 (omega (arith, next-length, G .stands .piece-lt))
 
+  -- root reaches the search's piece
+  piece-reached : {old : Regions} {root : ℕ} → Positioned n ss ls k old root w a → Reached g root (a .piece)
+  piece-reached {root = root} S = subst (λ (x : ℕ). Reached g root x) (S .piece-is (G .live)) (S .inv .base .stack .stack-in (a .stand) stand-lt)
+
   pub place-le : a .place ≤ 4
-  place-le = omega (arith, place-is, G .stands .inv .base .explored .four (a .piece) (G .stands .piece-lt))
+  place-le = omega (arith, place-is, G .stands .inv .base .explored .four (a .piece) (G .stands .piece-lt) (piece-reached (G .stands)))
 
   module _ (four : a .place < 4) where
     -- what the place's target is
@@ -69,7 +73,7 @@ module _ {n : ℕ} {ss ls : List ℕ} {k : ℕ} {w : List ℕ} {a : At} (G : Und
     Good s left = GoodAt s left target
 
     -- a place of the piece is explored, after whatever else
-    bumps : {old : List ℕ} {root : ℕ} {s : Regions} {size blocks stand : ℕ} → a .stand < size → s .stack ! a .stand ≡ a .piece → s .next ! a .piece ≡ a .place
+    bumps : {old : Regions} {root : ℕ} {s : Regions} {size blocks stand : ℕ} → a .stand < size → s .stack ! a .stand ≡ a .piece → s .next ! a .piece ≡ a .place
         → Invariant g old root s size blocks stand → Good s blocks → Invariant g old root (bumped s (a .piece)) size blocks stand
     bumps {old} {root} {s} {size} {blocks} {stand} lt e f I good =
         subst (λ (x : ℕ). Invariant g old root (bumped s x) size blocks stand) e
@@ -86,7 +90,7 @@ module _ {n : ℕ} {ss ls : List ℕ} {k : ℕ} {w : List ℕ} {a : At} (G : Und
         omega (arith, r, ap (λ (l : List ℕ). rest l n) e, height-le size stand, height-pos (a .size) (a .stand) (G .live), G .lent .most)
 
     -- the place is passed, with some blocks left
-    passing : (left : ℕ) → ((old : List ℕ) (root : ℕ) → Positioned n ss ls k old root w a → Invariant g old root (view n w a) (a .size) left (a .stand) × Good (view n w a) left)
+    passing : (left : ℕ) → ((old : Regions) (root : ℕ) → Positioned n ss ls k old root w a → Invariant g old root (view n w a) (a .size) left (a .stand) × Good (view n w a) left)
         → Progressed n ss ls k w a w (nextPlace a left)
     passing left keeps = record {
       stands = λ old root S.
@@ -122,6 +126,9 @@ module _ {n : ℕ} {ss ls : List ℕ} {k : ℕ} {w : List ℕ} {a : At} (G : Und
           link : Link n (g .at) (a .piece) target
           link = record { from = G .stands .piece-lt; to = y-n; place = a .place; inside = four; names = refl }
 
+          target-reached : {old : Regions} {root : ℕ} → Positioned n ss ls k old root w a → Reached g root target
+          target-reached S = reached-next (piece-reached S) (S .piece-lt) (a .place) four y-n y-in
+
           way : part n (3 * n) w ! a .stand ≡ a .piece → Way g (part n (3 * n) w ! a .stand) target
           way e = subst (λ (x : ℕ). Way g x target) (sym e) (one-step link)
 
@@ -150,7 +157,7 @@ module _ {n : ℕ} {ss ls : List ℕ} {k : ℕ} {w : List ℕ} {a : At} (G : Und
             s : Regions
             s = move.pushed (view n w a) (a .size) (a .blocks) (a .stand) target
 
-            pushes : (old : List ℕ) (root : ℕ) → Positioned n ss ls k old root w a → Invariant g old root s (suc (a .size)) (suc (a .blocks)) (a .size)
+            pushes : (old : Regions) (root : ℕ) → Positioned n ss ls k old root w a → Invariant g old root s (suc (a .size)) (suc (a .blocks)) (a .size)
             unfolding s
             pushes old root S =
                 move.push (S .inv .base) (S .inv .live) (λ _. S .inv .rooted) target y-n y-in fresh (λ _. way (S .piece-is (G .live)))
@@ -178,14 +185,14 @@ module _ {n : ℕ} {ss ls : List ℕ} {k : ℕ} {w : List ℕ} {a : At} (G : Und
               E =
                   ap (λ (x : Regions). moved x target 0) R ∙
                   moved-push (regions n w) (a .piece) (a .place) (a .size) (a .blocks) (a .stand) target (omega (arith, next-length, G .stands .piece-lt)) other
-                  (G .stands .inv .base .explored .fresh target y-n fresh)
+                  (G .stands .inv .base .explored .fresh target y-n (target-reached (G .stands)) fresh)
 
               target-at : part n (3 * n) w₂ ! a .size ≡ target
               target-at =
                   ap (λ (x : Regions). x .stack ! a .size) R ∙
                   getD-set-same (part n (3 * n) w) (a .size) target 0 (omega (arith, size-room, part-length n (3 * n) w (omega (arith, G .lent .work-n))))
 
-              stands : (old : List ℕ) (root : ℕ) → Positioned n ss ls k old root w a → Invariant g old root (bumped s (a .piece)) (suc (a .size)) (suc (a .blocks)) (a .size)
+              stands : (old : Regions) (root : ℕ) → Positioned n ss ls k old root w a → Invariant g old root (bumped s (a .piece)) (suc (a .size)) (suc (a .blocks)) (a .size)
               unfolding s
               stands old root S =
                   let I = pushes old root S in
@@ -217,7 +224,7 @@ module _ {n : ℕ} {ss ls : List ℕ} {k : ℕ} {w : List ℕ} {a : At} (G : Und
           pub step-merge : (mark ≡ 0 → ⊥) → (mark ≡ finishedMark → ⊥) → {left : ℕ} → Cut n w (a .blocks) (mark - 1) left → Progressed n ss ls k w a w (nextPlace a left)
           step-merge nz nf {left} K =
               passing left (λ old root S.
-              let o = S .inv .base .stack .marks-stack target y-n (λ e. nz (sym marked ∙ e)) (λ e. nf (sym marked ∙ e)) in
+              let o = S .inv .base .stack .marks-stack target y-n (target-reached S) (λ e. nz (sym marked ∙ e)) (λ e. nf (sym marked ∙ e)) in
               let hit : Way g (part n (3 * n) w ! a .stand) (part n (3 * n) w ! o .0) =
               subst (λ (x : ℕ). Way g (part n (3 * n) w ! a .stand) x) (sym (o .3)) (way (S .piece-is (G .live))) in
               let low : part n (4 * n) w ! pred left ≤ o .0 = omega (arith, K .below, o .1, marked) in

@@ -49,7 +49,7 @@ module _ {n : ℕ} {ss ls : List ℕ} {k : ℕ} {w : List ℕ} {a : At} (X : Exh
   same =
       ap (regions n) w-is ∙ put-next n w (a .piece) 4 piece-n ∙ ap (λ (j : ℕ). moved (regions n w) (a .piece) j) (sym (X .four))
 
-  inv : {old : List ℕ} {root : ℕ} → Positioned n ss ls k old root w a → Invariant g old root (regions n w₁) (a .size) (a .blocks) (a .stand)
+  inv : {old : Regions} {root : ℕ} → Positioned n ss ls k old root w a → Invariant g old root (regions n w₁) (a .size) (a .blocks) (a .stand)
   inv {old} {root} S = subst (λ (s : Regions). Invariant g old root s (a .size) (a .blocks) (a .stand)) (sym same) (S .inv)
 
   I : Invariant g (G .old) (G .root) (regions n w₁) (a .size) (a .blocks) (a .stand)
@@ -58,7 +58,7 @@ module _ {n : ℕ} {ss ls : List ℕ} {k : ℕ} {w : List ℕ} {a : At} (X : Exh
   pub pieces : Pieces n w₁ (a .stand) (a .size)
   pieces = record { work-n = work-n; most = G .lent .most; size-le = size-le; stand-lt = st-size; piece = I .base .stack .stack-lt }
 
-  full : {old : List ℕ} {root : ℕ} → Positioned n ss ls k old root w a → part n n w₁ ! (part n (3 * n) w₁ ! a .stand) ≡ 4
+  full : {old : Regions} {root : ℕ} → Positioned n ss ls k old root w a → part n n w₁ ! (part n (3 * n) w₁ ! a .stand) ≡ 4
   full S =
       ap (λ (s : Regions). s .next ! (s .stack ! a .stand)) same ∙ ap (λ (x : ℕ). view n w a .next ! x) (S .piece-is (G .live)) ∙ place-is G ∙ X .four
 
@@ -117,7 +117,7 @@ module _ {n : ℕ} {ss ls : List ℕ} {k : ℕ} {w : List ℕ} {a : At} (X : Exh
         r-view : view n w₂ r ≡ regions n w₂
         r-view = moved-same (regions n w₂) (r .piece) (r .place) r-place
 
-        stands-at : {old : List ℕ} {root : ℕ} → Invariant g old root (regions n w₂) size blocks p → Positioned n ss ls k old root w₂ r
+        stands-at : {old : Regions} {root : ℕ} → Invariant g old root (regions n w₂) size blocks p → Positioned n ss ls k old root w₂ r
         stands-at {old} {root} J = record {
           inv =
               subst (λ (m : ℕ). Invariant g old root (view n w₂ r) m (r .blocks) (r .stand)) (sym (R .size-is))

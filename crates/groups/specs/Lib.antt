@@ -7,4 +7,5 @@ pub mod Advance
 pub mod Finish
 pub mod Whole
 pub mod Grouped
+pub mod Root
 pub mod Roots

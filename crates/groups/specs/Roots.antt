@@ -1,4 +1,4 @@
--- From one search to what the callers are told: a search from one root, and one after another from every piece of the class.
+-- From one search to what the callers are told: one after another from every piece of the class.
 use mathlib.Core.Path.{_≡_, refl, sym, _∙_, ap, subst}
 use mathlib.Core.List.{List}
 use mathlib.Core.Logic.{inl, inr, ⊎-elim}
@@ -7,96 +7,102 @@ use native.Mathlib.Omega.{arith}
 use lib.ListN.{length}
 use Rattle.rules.specs.Reach.{here}
 use Rattle.rules.specs.Lists.{_!_}
-use Rattle.laws.specs.Numbers.{lt-or}
-use Rattle.paths.specs.Ground.{ground, OneWay, Lead, linkIn}
+use Rattle.laws.specs.Numbers.{eq-or, lt-or}
+use Rattle.paths.specs.Ground.{Ground, ground, OneWay, Leads}
 use Rattle.paths.specs.Search.{finishedMark, Calm}
-use Rattle.groups.specs.Layout.{part, tail, tail-is, part-get, marks-get}
+use Rattle.groups.specs.Layout.{part, tail, tail-is, marks-get}
 use Rattle.groups.specs.Steps.{Lent, Started, Searched}
-use Rattle.groups.specs.Grouped.{Searchable, Grouped, ReachedFrom, Of}
+use Rattle.groups.specs.Grouped.{Searchable, Grouped, Of}
+use Rattle.groups.specs.Root.{lead-get, unseen}
 
--- between two searches, where exactly the pieces with P are finished
-grouped : {n : ℕ} (ss ls : List ℕ) {k : ℕ} {P : ℕ → Type 0} {w w′ : List ℕ} → Calm (ground n ss ls k) (part n 0 w′) (part n n w′) (part n (2 * n) w′)
-    → ((x : ℕ) → x < n → P x → part n 0 w′ ! x ≡ finishedMark) → ((x : ℕ) → x < n → part n 0 w′ ! x ≡ finishedMark → P x)
-    → length w′ ≡ length w → tail n w′ ≡ tail n w → Grouped n ls P w w′
-grouped {n} ss ls {w = w} {w′} K all «only» len same = record {
-  all = λ x lt r. sym (marks-get n w′ x lt) ∙ all x lt r;
-  «only» = λ x lt e. «only» x lt (marks-get n w′ x lt ∙ e);
-  either = λ x lt. ⊎-elim (λ z. inl (sym (marks-get n w′ x lt) ∙ z)) (λ f. inr (sym (marks-get n w′ x lt) ∙ f)) (K .either x lt);
-  leads = λ x lt r. subst (λ (l : ℕ). Lead n (linkIn ls) x l) (part-get n (2 * n) w′ x lt) (K .exact x lt (all x lt r));
-  size = len;
-  later = sym (tail-is n w′) ∙ same ∙ tail-is n w;
-}
-
--- all pieces are unseen
-pub calm : {n : ℕ} {ss ls : List ℕ} {k : ℕ} {w : List ℕ} → Searchable n ss ls k w → Calm (ground n ss ls k) (part n 0 w) (part n n w) (part n (2 * n) w)
-calm {n} {ss} {ls} {k} {w} R =
-    let zero-mark : (x : ℕ) → x < n → part n 0 w ! x ≡ 0 = λ x lt. marks-get n w x lt ∙ R .zeros x (omega arith) in
-    let zero-next : (x : ℕ) → x < n → part n n w ! x ≡ 0 = λ x lt. part-get n n w x lt ∙ R .zeros (n + x) (omega arith) in
-    record {
-      small = R .lent .most;
-      either = λ v lt. inl (zero-mark v lt);
-      inside = λ v lt e. absurd (omega (arith, zero-mark v lt));
-      four = λ v lt. omega (arith, zero-next v lt);
-      fresh = λ v lt e. zero-next v lt;
-      closed = λ x lt e. absurd (omega (arith, zero-mark x lt));
-      exact = λ x lt e. absurd (omega (arith, zero-mark x lt));
-    }
-
-module _ {n : ℕ} {ss ls : List ℕ} {k : ℕ} {w : List ℕ} (R : Searchable n ss ls k w) where
-  pub search-start : {root : ℕ} → root < n → ss ! root ≡ k → Started n ss ls k w root
-  search-start lt e = record { lent = R .lent; closed = R .closed; calm = calm R; root-lt = lt; root-in = e }
-
-  -- what one search leaves
-  pub search-end : {root : ℕ} {w′ : List ℕ} → length w′ ≡ length w → Searched n ss ls k w root w′ → Grouped n ls (ReachedFrom n ss ls k root) w w′
-  search-end len S =
-      let W = S .visited in
-      grouped ss ls (W .calm) (λ x lt r. W .reached x lt (r .0) (r .1))
-      (λ x lt e. (
-        W .calm .inside x lt e,
-        ⊎-elim (λ h. absurd (omega (arith, h, marks-get n w x lt, R .zeros x (omega arith)))) (λ h. h) (W .«only» x lt e),
-      ))
-      len (S .tail-same)
-
--- every piece of the class below `root` is finished
+-- every piece of the class below `root` is finished, and no other piece is marked
 pub record Trying (n : ℕ) (ss ls : List ℕ) (k : ℕ) (w₀ w : List ℕ) (root : ℕ) : Type 0 where
   pub le : root ≤ n
   pub len : length w ≡ length w₀
   pub lent : Lent n ss ls w
   pub closed : OneWay (ground n ss ls k)
-  pub calm : Calm (ground n ss ls k) (part n 0 w) (part n n w) (part n (2 * n) w)
+  pub calm : Calm (ground n ss ls k) (Of ss k) (part n 0 w) (part n n w) (part n (2 * n) w)
+  pub outside : (x : ℕ) → x < n → (ss ! x ≡ k → ⊥) → part n 0 w ! x ≡ 0
   pub done : (x : ℕ) → x < root → ss ! x ≡ k → part n 0 w ! x ≡ finishedMark
   pub tail-same : tail n w ≡ tail n w₀
 
 pub trying-none : {n : ℕ} {ss ls : List ℕ} {k : ℕ} {w : List ℕ} → Searchable n ss ls k w → Trying n ss ls k w w 0
-trying-none R = record {
+trying-none {n} {w = w} R = record {
   le = omega arith;
   len = refl;
   lent = R .lent;
   closed = R .closed;
-  calm = calm R;
+  calm = unseen (R .lent) (λ x lt r. (R .zeros x (omega arith), R .zeros (n + x) (omega arith)));
+  outside = λ x lt f. marks-get n w x lt ∙ R .zeros x (omega arith);
   done = λ x lt. absurd (omega arith);
   tail-same = refl;
 }
 
 module _ {n : ℕ} {ss ls : List ℕ} {k : ℕ} {w₀ w : List ℕ} {root : ℕ} (Q : Trying n ss ls k w₀ w root) where
-  pub trying-start : root < n → ss ! root ≡ k → Started n ss ls k w root
-  trying-start lt e = record { lent = Q .lent; closed = Q .closed; calm = Q .calm; root-lt = lt; root-in = e }
+  abbrev g : Ground
+  g = ground n ss ls k
 
-  -- a piece of the class, searched from
-  pub trying-more : root < n → ss ! root ≡ k → {w′ : List ℕ} → length w′ ≡ length w → Searched n ss ls k w root w′ → Trying n ss ls k w₀ w′ (root + 1)
-  trying-more lt e {w′} len S = record {
-    le = omega arith;
-    len = len ∙ Q .len;
-    lent = record { most = Q .lent .most; states-n = Q .lent .states-n; links-n = Q .lent .links-n; work-n = omega (arith, len, Q .lent .work-n) };
-    closed = Q .closed;
-    calm = S .visited .calm;
-    done = λ x u c.
-        ⊎-elim
-        (λ h. S .visited .kept x (omega arith) (Q .done x h c))
-        (λ h. let q : root ≡ x = omega arith in subst (λ (m : ℕ). part n 0 w′ ! m ≡ finishedMark) q (S .visited .reached root lt e here))
-        (lt-or x root);
-    tail-same = S .tail-same ∙ Q .tail-same;
-  }
+  pub trying-start : root < n → ss ! root ≡ k → Started n ss ls k w root
+  trying-start lt e =
+      let K = Q .calm in
+      record {
+        lent = Q .lent;
+        closed = Q .closed;
+        calm = record {
+          small = K .small;
+          either = λ v u r. K .either v u (r .is);
+          four = λ v u r. K .four v u (r .is);
+          fresh = λ v u r. K .fresh v u (r .is);
+          closed = λ x u r. K .closed x u (r .is);
+          exact = λ x u r. K .exact x u (r .is);
+        };
+        root-lt = lt;
+        root-in = e;
+      }
+
+  -- what a search from root leaves: root's pieces are finished, and the others as they were
+  module _ {w′ : List ℕ} (S : Searched n ss ls k w root w′) where
+    kept : (x : ℕ) → x < n → part n 0 w ! x ≡ finishedMark → part n 0 w′ ! x ≡ finishedMark
+    kept x lt e = ⊎-elim (λ r. S .visited .all x lt r) (λ s. s .0 ∙ e) (S .visited .others .same x lt)
+
+    calm-on : Calm g (Of ss k) (part n 0 w′) (part n n w′) (part n (2 * n) w′)
+    calm-on =
+        let K = Q .calm in
+        let found = S .visited .calm in
+        let same = S .visited .others .same in
+        record {
+          small = K .small;
+          either = λ v lt i.
+              ⊎-elim (λ r. found .either v lt r) (λ s. ⊎-elim (λ z. inl (s .0 ∙ z)) (λ f. inr (s .0 ∙ f)) (K .either v lt i)) (same v lt);
+          four = λ v lt i. ⊎-elim (λ r. found .four v lt r) (λ s. omega (arith, s .1, K .four v lt i)) (same v lt);
+          fresh = λ v lt i z. ⊎-elim (λ r. found .fresh v lt r z) (λ s. s .1 ∙ K .fresh v lt i (sym (s .0) ∙ z)) (same v lt);
+          closed = λ x lt i e j u v c.
+              ⊎-elim (λ r. found .closed x lt r e j u v c) (λ s. kept (g .at x j) v (K .closed x lt i (sym (s .0) ∙ e) j u v c)) (same x lt);
+          exact = λ x lt i e.
+              ⊎-elim
+              (λ r. found .exact x lt r e)
+              (λ s. subst (λ (l : ℕ). Leads g x l) (sym (s .2)) (K .exact x lt i (sym (s .0) ∙ e)))
+              (same x lt);
+        }
+
+    -- a piece of the class, searched from
+    pub trying-more : root < n → ss ! root ≡ k → length w′ ≡ length w → Trying n ss ls k w₀ w′ (root + 1)
+    trying-more lt e len = record {
+      le = omega arith;
+      len = len ∙ Q .len;
+      lent = record { most = Q .lent .most; states-n = Q .lent .states-n; links-n = Q .lent .links-n; work-n = omega (arith, len, Q .lent .work-n) };
+      closed = Q .closed;
+      calm = calm-on;
+      outside = λ x u f. ⊎-elim (λ r. absurd (f (r .is))) (λ s. s .0 ∙ Q .outside x u f) (S .visited .others .same x u);
+      done = λ x u c.
+          ⊎-elim
+          (λ h. kept x (omega arith) (Q .done x h c))
+          (λ h.
+          let q : root ≡ x = omega arith in
+          subst (λ (m : ℕ). part n 0 w′ ! m ≡ finishedMark) q (S .visited .all root lt (record { is = e; way = here })))
+          (lt-or x root);
+      tail-same = S .tail-same ∙ Q .tail-same;
+    }
 
   -- any other piece, passed
   pub trying-pass : root < n → (ss ! root ≡ k → ⊥) → Trying n ss ls k w₀ w (root + 1)
@@ -106,6 +112,7 @@ module _ {n : ℕ} {ss ls : List ℕ} {k : ℕ} {w₀ w : List ℕ} {root : ℕ}
     lent = Q .lent;
     closed = Q .closed;
     calm = Q .calm;
+    outside = Q .outside;
     done = λ x u c.
         ⊎-elim
         (λ h. Q .done x h c)
@@ -115,4 +122,18 @@ module _ {n : ℕ} {ss ls : List ℕ} {k : ℕ} {w₀ w : List ℕ} {root : ℕ}
   }
 
   pub trying-all : n ≤ root → Grouped n ls (Of ss k) w₀ w
-  trying-all le = grouped ss ls (Q .calm) (λ x lt c. Q .done x (omega arith) c) (Q .calm .inside) (Q .len) (Q .tail-same)
+  trying-all le =
+      let all : (x : ℕ) → x < n → ss ! x ≡ k → part n 0 w ! x ≡ finishedMark = λ x lt c. Q .done x (omega arith) c in
+      record {
+        all = λ x lt c. sym (marks-get n w x lt) ∙ all x lt c;
+        «only» = λ x lt e.
+            ⊎-elim (λ c. c) (λ f. absurd (omega (arith, e, marks-get n w x lt, Q .outside x lt f))) (eq-or (ss ! x) k);
+        either = λ x lt.
+            ⊎-elim
+            (λ c. inr (sym (marks-get n w x lt) ∙ all x lt c))
+            (λ f. inl (sym (marks-get n w x lt) ∙ Q .outside x lt f))
+            (eq-or (ss ! x) k);
+        leads = λ x lt c. lead-get n ls w lt (Q .calm .exact x lt c (all x lt c));
+        size = Q .len;
+        later = sym (tail-is n w) ∙ Q .tail-same ∙ tail-is n w₀;
+      }

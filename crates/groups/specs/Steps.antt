@@ -5,7 +5,7 @@ use mathlib.Core.Logic.{_⊎_}
 use Prim.Native.Nat.{ℕ, pred, _+_, _*_, _≤_, _<_}
 use lib.ListN.{length, set}
 use Rattle.rules.specs.Lists.{_!_}
-use Rattle.paths.specs.Ground.{ground, OneWay}
+use Rattle.paths.specs.Ground.{ground, OneWay, Reached}
 use Rattle.paths.specs.Search.{finishedMark, Regions, Invariant, Calm, Visited, measure}
 use Rattle.groups.specs.Layout.{part, tail, regions, moved}
 use Rattle.groups.specs.declared.At.{At}
@@ -22,7 +22,7 @@ abbrev pub view : ℕ → List ℕ → At → Regions
 view n w a = moved (regions n w) (a .piece) (a .place)
 
 -- the search stands at a
-pub record Positioned (n : ℕ) (states links : List ℕ) (class : ℕ) (old : List ℕ) (root : ℕ) (w : List ℕ) (a : At) : Type 0 where
+pub record Positioned (n : ℕ) (states links : List ℕ) (class : ℕ) (old : Regions) (root : ℕ) (w : List ℕ) (a : At) : Type 0 where
   pub inv : Invariant (ground n states links class) old root (view n w a) (a .size) (a .blocks) (a .stand)
   pub piece-lt : a .piece < n
   pub piece-is : 0 < a .size → part n (3 * n) w ! a .stand ≡ a .piece
@@ -32,7 +32,7 @@ pub record Positioned (n : ℕ) (states links : List ℕ) (class : ℕ) (old : L
 pub record UnderWay (n : ℕ) (states links : List ℕ) (class : ℕ) (w : List ℕ) (a : At) : Type 0 where
   pub lent : Lent n states links w
   pub live : 0 < a .size
-  pub old : List ℕ
+  pub old : Regions
   pub root : ℕ
   pub stands : Positioned n states links class old root w a
 
@@ -44,14 +44,14 @@ pub record Exhausted (n : ℕ) (states links : List ℕ) (class : ℕ) (w : List
 
 -- a step keeps the invariant, and leaves less to do
 pub record Progressed (n : ℕ) (states links : List ℕ) (class : ℕ) (w : List ℕ) (a : At) (w′ : List ℕ) (a′ : At) : Type 0 where
-  pub stands : (old : List ℕ) (root : ℕ) → Positioned n states links class old root w a → Positioned n states links class old root w′ a′
+  pub stands : (old : Regions) (root : ℕ) → Positioned n states links class old root w a → Positioned n states links class old root w′ a′
   pub less : measure n (view n w′ a′) (a′ .size) (a′ .stand) < measure n (view n w a) (a .size) (a .stand)
   pub tail-same : tail n w′ ≡ tail n w
 
 -- some places are explored, or none
 pub record Came (n : ℕ) (states links : List ℕ) (class : ℕ) (w : List ℕ) (a : At) (w′ : List ℕ) (a′ : At) : Type 0 where
   pub len : length w′ ≡ length w
-  pub stands : (old : List ℕ) (root : ℕ) → Positioned n states links class old root w a → Positioned n states links class old root w′ a′
+  pub stands : (old : Regions) (root : ℕ) → Positioned n states links class old root w a → Positioned n states links class old root w′ a′
   pub most : measure n (view n w′ a′) (a′ .size) (a′ .stand) ≤ measure n (view n w a) (a .size) (a .stand)
   pub tail-same : tail n w′ ≡ tail n w
 
@@ -128,11 +128,11 @@ pub record Resumed (n : ℕ) (w : List ℕ) (size blocks stand : ℕ) (a : At) :
 pub record Started (n : ℕ) (states links : List ℕ) (class : ℕ) (w : List ℕ) (root : ℕ) : Type 0 where
   pub lent : Lent n states links w
   pub closed : OneWay (ground n states links class)
-  pub calm : Calm (ground n states links class) (part n 0 w) (part n n w) (part n (2 * n) w)
+  pub calm : Calm (ground n states links class) (Reached (ground n states links class) root) (part n 0 w) (part n n w) (part n (2 * n) w)
   pub root-lt : root < n
   pub root-in : states ! root ≡ class
 
 -- what a search from root leaves
 pub record Searched (n : ℕ) (states links : List ℕ) (class : ℕ) (w : List ℕ) (root : ℕ) (w′ : List ℕ) : Type 0 where
-  pub visited : Visited (ground n states links class) (part n 0 w) (part n 0 w′) (part n n w′) (part n (2 * n) w′) root
+  pub visited : Visited (ground n states links class) (regions n w) (part n 0 w′) (part n n w′) (part n (2 * n) w′) root
   pub tail-same : tail n w′ ≡ tail n w

@@ -1,13 +1,13 @@
 -- The whole search from one root: how it begins, what its loop keeps, and how it ends.
 use mathlib.Core.Path.{_≡_, refl, sym, _∙_, ap, subst}
 use mathlib.Core.List.{List}
-use mathlib.Core.Logic.{inl, ⊎-elim}
+use mathlib.Core.Logic.{inr, ⊎-elim}
 use Prim.Native.Nat.{ℕ, _<_}
 use native.Mathlib.Omega.{arith}
 use lib.ListN.{length, length-set}
 use Rattle.rules.specs.Reach.{here}
 use Rattle.rules.specs.Lists.{_!_}
-use Rattle.paths.specs.Ground.{Ground, ground}
+use Rattle.paths.specs.Ground.{Ground, ground, Reached}
 use Rattle.paths.specs.Search.{finishedMark, Regions, Invariant}
 use Rattle.paths.specs.Stays.{kept-in}
 use Rattle.paths.specs.Moves.Push as move
@@ -25,9 +25,9 @@ first root = record { size = 1; blocks = 1; stand = 0; piece = root; place = 0 }
 pub record Searching (n : ℕ) (ss ls : List ℕ) (k : ℕ) (w₀ : List ℕ) (root : ℕ) (w : List ℕ) (a : At) : Type 0 where
   pub lent : Lent n ss ls w
   pub len : length w ≡ length w₀
-  pub old : List ℕ
+  pub old : Regions
   pub began : Positioned n ss ls k old root w₀ (first root)
-  pub stands : (old : List ℕ) → Positioned n ss ls k old root w₀ (first root) → Positioned n ss ls k old root w a
+  pub stands : (old : Regions) → Positioned n ss ls k old root w₀ (first root) → Positioned n ss ls k old root w a
   pub tail-same : tail n w ≡ tail n w₀
 
 pub going : {n : ℕ} {ss ls : List ℕ} {k : ℕ} {w₀ : List ℕ} {root : ℕ} {w : List ℕ} {a : At} → Searching n ss ls k w₀ root w a → 0 < a .size → UnderWay n ss ls k w a
@@ -47,6 +47,9 @@ searching-step {root = root} Q len T = record {
 module _ {n : ℕ} {ss ls : List ℕ} {k : ℕ} {w : List ℕ} {root : ℕ} (S : Started n ss ls k w root) where
   abbrev g : Ground
   g = ground n ss ls k
+
+  itself : Reached g root root
+  itself = record { is = S .root-in; way = here }
 
   root-get : part n 0 w ! root ≡ w ! root
   root-get = marks-get n w root (S .root-lt)
@@ -69,17 +72,17 @@ module _ {n : ℕ} {ss ls : List ℕ} {k : ℕ} {w : List ℕ} {root : ℕ} (S :
     R = ap (regions n) w₀-is ∙ push-view n w 0 0 0 root (omega (arith, S .root-lt)) (omega (arith, S .root-lt)) (S .root-lt)
 
     next-zero : 0 ≡ part n n w₀ ! root
-    next-zero = sym (ap (λ (s : Regions). s .next ! root) R ∙ S .calm .fresh root (S .root-lt) unseen)
+    next-zero = sym (ap (λ (s : Regions). s .next ! root) R ∙ S .calm .fresh root (S .root-lt) itself unseen)
 
-    begun : Invariant g (part n 0 w) root (regions n w₀) 1 1 0
+    begun : Invariant g (regions n w) root (regions n w₀) 1 1 0
     begun =
-        subst (λ (s : Regions). Invariant g (part n 0 w) root s 1 1 0) (sym R)
+        subst (λ (s : Regions). Invariant g (regions n w) root s 1 1 0) (sym R)
         (move.push (begins (sizes n w (S .lent .work-n)) (S .calm)) (λ h. absurd (omega arith)) (λ h. absurd (omega arith)) root (S .root-lt) (S .root-in) unseen
         (λ h. absurd (omega arith)) (λ e. refl) (omega arith))
 
-    begin : Positioned n ss ls k (part n 0 w) root w₀ (first root)
+    begin : Positioned n ss ls k (regions n w) root w₀ (first root)
     begin = record {
-      inv = subst (λ (s : Regions). Invariant g (part n 0 w) root s 1 1 0) (sym (moved-same (regions n w₀) root 0 next-zero)) begun;
+      inv = subst (λ (s : Regions). Invariant g (regions n w) root s 1 1 0) (sym (moved-same (regions n w₀) root 0 next-zero)) begun;
       piece-lt = S .root-lt;
       piece-is = λ _. begun .live (omega arith) .first;
       stored = λ e. absurd (omega arith);
@@ -92,7 +95,7 @@ module _ {n : ℕ} {ss ls : List ℕ} {k : ℕ} {w : List ℕ} {root : ℕ} (S :
     searching = record {
       lent = record { most = S .lent .most; states-n = S .lent .states-n; links-n = S .lent .links-n; work-n = omega (arith, len₀, S .lent .work-n) };
       len = refl;
-      old = part n 0 w;
+      old = regions n w;
       began = begin;
       stands = λ old S. S;
       tail-same = refl;
@@ -100,26 +103,25 @@ module _ {n : ℕ} {ss ls : List ℕ} {k : ℕ} {w : List ℕ} {root : ℕ} (S :
 
     pub searched : {w′ : List ℕ} {a : At} → Searching n ss ls k w₀ root w′ a → a .size ≡ 0 → Searched n ss ls k w root w′
     searched {w′} {a} Q end =
-        let T = Q .stands (part n 0 w) begin in
-        let I : Invariant g (part n 0 w) root (regions n w′) 0 (a .blocks) (a .stand) =
-        subst (λ (m : ℕ). Invariant g (part n 0 w) root (regions n w′) m (a .blocks) (a .stand)) end
-        (subst (λ (s : Regions). Invariant g (part n 0 w) root s (a .size) (a .blocks) (a .stand))
+        let T = Q .stands (regions n w) begin in
+        let I : Invariant g (regions n w) root (regions n w′) 0 (a .blocks) (a .stand) =
+        subst (λ (m : ℕ). Invariant g (regions n w) root (regions n w′) m (a .blocks) (a .stand)) end
+        (subst (λ (s : Regions). Invariant g (regions n w) root s (a .size) (a .blocks) (a .stand))
         (moved-same (regions n w′) (a .piece) (a .place) (sym (T .stored end))) (T .inv)) in
         record {
-          visited = finishes (S .closed) (S .root-lt) I;
+          visited = finishes (S .closed) (S .root-lt) (S .root-in) I;
           tail-same = Q .tail-same ∙ ap (tail n) w₀-is ∙ push-tail n w 0 0 0 root (omega (arith, S .root-lt)) (omega (arith, S .root-lt)) (S .root-lt);
         }
 
   -- a root that is finished already
   pub already : {mark : ℕ} → mark ≡ w ! root → (mark ≡ 0 → ⊥) → Searched n ss ls k w root w
   already mark-is nz =
-      let e : part n 0 w ! root ≡ finishedMark = ⊎-elim (λ z. absurd (nz (mark-is ∙ sym root-get ∙ z))) (λ e. e) (S .calm .either root (S .root-lt)) in
+      let e : part n 0 w ! root ≡ finishedMark = ⊎-elim (λ z. absurd (nz (mark-is ∙ sym root-get ∙ z))) (λ e. e) (S .calm .either root (S .root-lt) itself) in
       record {
         visited = record {
           calm = S .calm;
-          kept = λ x lt h. h;
-          reached = λ x lt cx r. kept-in (part n 0 w) (S .closed) (S .calm .closed) cx r here (S .root-lt) (S .root-in) e .1;
-          «only» = λ x lt h. inl h;
+          all = λ x lt r. kept-in (part n 0 w) (S .closed) (S .calm .closed) (r .is) (r .way) here (S .root-lt) itself e .2;
+          others = record { same = λ x lt. inr (refl, refl, refl) };
         };
         tail-same = refl;
       }

@@ -9,7 +9,7 @@ ghost use Rattle.paths.specs.Ground.{OneWay, ground};
 ghost use Rattle.paths.specs.Moves.Pop.{LowestOnStack};
 ghost use Rattle.groups.specs.Layout.{part};
 ghost use Rattle.groups.specs.Steps.{UnderWay, Exhausted, Progressed, Advanced, Stackable, stacked, Blocks, Cut, Pieces, ClosedOff, Resumable, Resumed, Started, Searched};
-ghost use Rattle.groups.specs.Grouped.{Searchable, Grouped, ReachedFrom, Of};
+ghost use Rattle.groups.specs.Grouped.{Searchable, Visitable, Grouped, Led, ReachedFrom, Of};
 use rules::Store;
 
 // Where the search stands.
@@ -218,10 +218,10 @@ fn search(n: usize, states: &[u8], links: &[u16], class: u8, work: &mut [u32], r
     }
 }
 
-// Finishes every piece of the class that root reaches, and no other, each with its leader.
+// Finds the leader of every piece of the class that root reaches. The marks and the next places of the others may hold anything.
 pub fn visit(n: usize, states: &[u8], links: &[u16], class: u8, work: &mut [u32], root: usize)
-    requires { ⌜ Searchable n (now states) (now links) class (now work) × (root < n) × (now states ! root ≡ class) ⌝ }
-    ensures { λ _. ⌜ Grouped n (now (links .entry)) (ReachedFrom n (now (states .entry)) (now (links .entry)) class root) (now (work .entry)) (now (work .exit)) ⌝ }
+    requires { ⌜ Visitable n (now states) (now links) class (now work) root ⌝ }
+    ensures { λ _. ⌜ Led n (now (links .entry)) (ReachedFrom n (now (states .entry)) (now (links .entry)) class root) (now (work .entry)) (now (work .exit)) ⌝ }
 {
     search(n, states, links, class, work, root);
 }

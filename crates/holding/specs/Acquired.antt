@@ -10,7 +10,7 @@ use Rattle.rules.specs.Tests.{_&_}
 use lib.ListN.{length, set}
 use Rattle.rules.specs.Lists.{_!_}
 use Rattle.rules.specs.Register.{Right, heldBy, isFull, oneMoreBy}
-use Rattle.rules.specs.Tables.{Store, storeOf}
+use Rattle.rules.specs.Tables.{Store, tablesOf, storeBy}
 use Rattle.rules.specs.Commands.{noLine, withHolds}
 use Rattle.rules.specs.Calls.{answered, effect, fresh, ReadyStore, Did}
 use Rattle.rules.specs.declared.Refusal.the-variants.{Register}
@@ -65,9 +65,9 @@ pub record OneMore (n : ℕ) (leaders holds counts : List ℕ) (p : ℕ) : Type 
 
 -- the answer r and the areas left are what acquire gives, whatever the links are
 pub record Acquired (n : ℕ) (states leaders holds counts register : List ℕ) (p seat : ℕ) (r : Answer) (holds′ counts′ register′ : List ℕ) : Type 0 where
-  pub did : {links : List ℕ} → ReadyStore (storeOf n states links leaders holds counts register)
-      → Did (Acquire p seat) (storeOf n states links leaders holds counts register) []
-      (effect (answered r) (storeOf n states links leaders holds′ counts′ register′) [])
+  pub did : {links : List ℕ} → ReadyStore (storeBy (tablesOf n states links leaders holds counts) register)
+      → Did (Acquire p seat) (storeBy (tablesOf n states links leaders holds counts) register) []
+      (effect (answered r) (storeBy (tablesOf n states links leaders holds′ counts′) register′) [])
 
 -- ---- what the register's test tells: there is room for a line, or not
 
@@ -84,12 +84,12 @@ room-told l i p {r} e f = subst T (room-said r (eqb (heldBy l i p) 0 & isFull l)
 
 -- ---- one hold more is acquire
 
-module _ {n p seat : ℕ} {states links leaders holds counts register : List ℕ} (ready : ReadyStore (storeOf n states links leaders holds counts register))
+module _ {n p seat : ℕ} {states links leaders holds counts register : List ℕ} (ready : ReadyStore (storeBy (tablesOf n states links leaders holds counts) register))
     (sits : seat < 32) (named : NamedPiece n states p) (other : states ! p ≡ 1 → ⊥) where
   -- no line is free
   pub crowded : {r : Bool} → holds ! p < 1000 → not r ≡ true → r ≡ not (eqb (heldBy register seat p) 0 & isFull register)
-      → Did (Acquire p seat) (storeOf n states links leaders holds counts register) []
-      (effect (answered (Refused Register)) (storeOf n states links leaders holds counts register) [])
+      → Did (Acquire p seat) (storeBy (tablesOf n states links leaders holds counts) register) []
+      (effect (answered (Refused Register)) (storeBy (tablesOf n states links leaders holds counts) register) [])
   unfolding noLine
   crowded {r} few none said =
       refused-line acquire-adds acquire-itself sits (acquire-accepted (ready-tables ready) named other few seat) (none-said r (noLine register seat p) none said)
@@ -97,11 +97,11 @@ module _ {n p seat : ℕ} {states links leaders holds counts register : List ℕ
   pub acquired-did : {r : Bool} {holds′ counts′ register′ : List ℕ} {a : Answer} → holds ! p < 1000
       → not r ≡ false → r ≡ not (eqb (heldBy register seat p) 0 & isFull register)
       → (holds′ ≡ set holds p (holds ! p + 1)) × (counts′ ≡ set counts (leaders ! p) (counts ! (leaders ! p) + 1)) → register′ ≡ oneMoreBy register seat p → a ≡ fresh
-      → Did (Acquire p seat) (storeOf n states links leaders holds counts register) []
-      (effect (answered a) (storeOf n states links leaders holds′ counts′ register′) [])
+      → Did (Acquire p seat) (storeBy (tablesOf n states links leaders holds counts) register) []
+      (effect (answered a) (storeBy (tablesOf n states links leaders holds′ counts′) register′) [])
   unfolding withHolds noLine
   acquired-did {r} few room said both more is = record {
     exact =
-        (λ k. effect (answered (is k)) (storeOf n states links leaders (both .0 k) (both .1 k) (more k)) [])
+        (λ k. effect (answered (is k)) (storeBy (tablesOf n states links leaders (both .0 k) (both .1 k)) (more k)) [])
         ∙ done-more acquire-adds acquire-itself sits (room-said r (noLine register seat p) room said) (any-acquire (acquired (ready-tables ready) named other few refl)) refl .exact;
   }

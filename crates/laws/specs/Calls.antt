@@ -70,11 +70,19 @@ pub sized-store→ : (s : Store) → T (isSizedStore s) → (1 ≤ s .tables .ba
 unfolding isSizedStore
 sized-store→ s t =
     let x = sized→ (s .tables) (and-left (isSized (s .tables)) _ t) in
-    (x .0, record { tables = x .1; register = eqb→eq (length (s .register)) entries (and-right (isSized (s .tables)) _ t) })
+    let r = and-right (isSized (s .tables)) _ t in (
+      x .0,
+      record {
+        tables = x .1;
+        register = eqb→eq (length (s .register)) entries (and-left (eqb (length (s .register)) entries) _ r);
+        into = eqb→eq (length (s .into)) (s .tables .base .n) (and-right (eqb (length (s .register)) entries) _ r);
+      },
+    )
 
 pub →sized-store : (s : Store) → 1 ≤ s .tables .base .n → SizedStore s → T (isSizedStore s)
 unfolding isSizedStore
-→sized-store s l z = and-both (isSized (s .tables)) _ (→sized (s .tables) l (z .tables)) (eqb-of (z .register))
+→sized-store s l z =
+    and-both (isSized (s .tables)) _ (→sized (s .tables) l (z .tables)) (and-both (eqb (length (s .register)) entries) _ (eqb-of (z .register)) (eqb-of (z .into)))
 
 pub lent-sized : (a : Areas) (c : Call) → T (isLent a c) → (1 ≤ a .store .tables .base .n) × SizedStore (a .store)
 unfolding isLent

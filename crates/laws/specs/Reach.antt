@@ -13,7 +13,7 @@ use lib.Seq.{getD-set-same, getD-set-other}
 use Rattle.rules.specs.Tests.{_or_}
 use Rattle.laws.specs.Tests.{or-left, or-right, or-cases}
 use Rattle.laws.specs.Below.{some→, →some}
-use Rattle.rules.specs.Reach.{Link, Reach, here, chain, hit, widenFrom, widen, close, into, reachb}
+use Rattle.rules.specs.Reach.{Link, Reach, here, chain, hit, widenFrom, widen, close, reaching, reachb}
 
 -- how many are not marked
 unmarked : List Bool → ℕ
@@ -163,13 +163,13 @@ start-length : (n t : ℕ) → length (set (replicate n false) t true) ≡ n
 start-length n t = length-set (replicate n false) t true ∙ length-replicate n false
 
 pub reachb→Reach : (n : ℕ) (at : ℕ → ℕ → ℕ) (p t : ℕ) → T (reachb n at p t) → Reach n at p t
-unfolding reachb into Right
+unfolding reachb reaching Right
 reachb→Reach n at p t h =
     close-right n at t n (set (replicate n false) t true) (start-length n t)
     (λ q u. subst (λ (k : ℕ). Reach n at q k) (start-right n t q u) here) p h
 
 pub Reach→reachb : (n : ℕ) (at : ℕ → ℕ → ℕ) (p t : ℕ) → t < n → Reach n at p t → T (reachb n at p t)
-unfolding reachb into
+unfolding reachb reaching
 Reach→reachb n at p t b r =
     let m : List Bool = set (replicate n false) t true in
     closed-all n at t (close at n m) (length-close at n m ∙ start-length n t)
@@ -177,9 +177,9 @@ Reach→reachb n at p t b r =
     (keeps at n m t (subst T (sym (getD-set-same (replicate n false) t true false (subst (λ (k : ℕ). t < k) (sym (length-replicate n false)) b))) tt))
 
 pub reachb-below : (n : ℕ) (at : ℕ → ℕ → ℕ) (p t : ℕ) → T (reachb n at p t) → p < n
-unfolding reachb into
+unfolding reachb reaching
 reachb-below n at p t h =
-    subst (λ (k : ℕ). p < k) (length-close at n (set (replicate n false) t true) ∙ start-length n t) (marked-below (into n at t) p h)
+    subst (λ (k : ℕ). p < k) (length-close at n (set (replicate n false) t true) ∙ start-length n t) (marked-below (reaching n at t) p h)
 
 -- ---- for a marking loop: what holds of p and is handed on by each link holds of all that p reaches; and backwards
 pub reach-forward : {n : ℕ} {at : ℕ → ℕ → ℕ} (M : ℕ → Type 0) → ((x y : ℕ) → M x → Link n at x y → M y) → {p q : ℕ} → M p → Reach n at p q → M q

@@ -6,7 +6,7 @@ use Prim.Native.Nat.{ℕ, _≤_, _<_}
 use native.Mathlib.Omega.{arith}
 use lib.Dec.{T, T-not, not-T, ltb, ltb→lt, lt→ltb}
 use Rattle.rules.specs.Register.{heldBy, oneMoreBy, oneLessBy}
-use Rattle.rules.specs.Tables.{Base, Tables, Store, storeOn}
+use Rattle.rules.specs.Tables.{Base, Tables, Store, storeBy}
 use Rattle.rules.specs.Commands.{namesSeat, Verdict, accepted, refused, firstOf, noSeat, noLine, notYours, seatRefusals, tableRefusals, registerRefusals}
 use Rattle.rules.specs.Commands.{edit, settles, freedBy, after, valueOf, noted, nextTables}
 use Rattle.rules.specs.Calls.{Reply, answered, effect, refusedBy, acceptedBy, doneBy, listing, Did}
@@ -153,29 +153,29 @@ unfolding seatVerdict
 passed-seat {c} {i} m h = ap firstOf (m .row) ∙ row-passed (noSeat i) Seat (not-T (noSeat i) (λ t. T-not (ltb i 32) t (lt→ltb i 32 h)))
 
 module _ {c : Command} {i : ℕ} {t : Tables} {l register : List ℕ} (m : BySeat c i) where
-  answered-so : {r : Refusal} → Did c (storeOn t register) l (effect (refusedBy r c) (storeOn t register) l)
-      → Did c (storeOn t register) l (effect (answered (Refused r)) (storeOn t register) l)
-  answered-so {r} d = subst (λ (a : Reply). Did c (storeOn t register) l (effect a (storeOn t register) l)) (refused-says c (m .names) r) d
+  answered-so : {r : Refusal} → Did c (storeBy t register) l (effect (refusedBy r c) (storeBy t register) l)
+      → Did c (storeBy t register) l (effect (answered (Refused r)) (storeBy t register) l)
+  answered-so {r} d = subst (λ (a : Reply). Did c (storeBy t register) l (effect a (storeBy t register) l)) (refused-says c (m .names) r) d
 
   -- refused by the seat
-  pub refused-seat : 32 ≤ i → Did c (storeOn t register) l (effect (answered (Refused Seat)) (storeOn t register) l)
+  pub refused-seat : 32 ≤ i → Did c (storeBy t register) l (effect (answered (Refused Seat)) (storeBy t register) l)
   refused-seat h = answered-so (seat-refused (unfold seatVerdict in (ap firstOf (m .row) ∙ row-given (noSeat i) Seat (not-T (ltb i 32) (λ t. omega (arith, ltb→lt i 32 t))))))
 
-  module _ (same : Itself (storeOn t register) c) (h : i < 32) where
+  module _ (same : Itself (storeBy t register) c) (h : i < 32) where
     -- by the tables
     pub refused-tables : {r : Refusal} → DidTables c t l (tablesEffect (answered (Refused r)) t l)
-        → Did c (storeOn t register) l (effect (answered (Refused r)) (storeOn t register) l)
+        → Did c (storeBy t register) l (effect (answered (Refused r)) (storeBy t register) l)
     refused-tables d = answered-so (tables-refused same (passed-seat m h) (told-refused c (m .names) t l d))
 
     -- by the register
     refused-last : {r : Refusal} → tableVerdict (t .base) c ≡ accepted → registerVerdict register c ≡ refused r
-        → Did c (storeOn t register) l (effect (answered (Refused r)) (storeOn t register) l)
+        → Did c (storeBy t register) l (effect (answered (Refused r)) (storeBy t register) l)
     refused-last tables e = answered-so (register-refused same (passed-seat m h) tables e)
 
     -- by none of them
     done-seated : {v f : ℕ} {t′ : Tables} {l′ register′ : List ℕ} → registerVerdict register c ≡ accepted
         → DidTables c t l (tablesEffect (answered (Done v f)) t′ l′) → register′ ≡ noted register c
-        → Did c (storeOn t register) l (effect (answered (Done v f)) (storeOn t′ register′) l′)
+        → Did c (storeBy t register) l (effect (answered (Done v f)) (storeBy t′ register′) l′)
     done-seated {v} {f} {t′} {l′} {register′} last d e = record { exact = both ∙ all-did same (passed-seat m h) tables last .exact }
       where
         tables : tableVerdict (t .base) c ≡ accepted
@@ -187,14 +187,14 @@ module _ {c : Command} {i : ℕ} {t : Tables} {l register : List ℕ} (m : BySea
         work : tablesEffect (answered (Done v f)) t′ l′ ≡ tablesEffect (acceptedBy t c) (nextTables t c) (listing (freedBy (t .base) c) l)
         work = d .exact ∙ ap (tablesEffected t l c) tables ∙ opened
 
-        both : effect (answered (Done v f)) (storeOn t′ register′) l′
-            ≡ effect (acceptedBy t c) (storeOn (nextTables t c) (noted register c)) (listing (freedBy (t .base) c) l)
-        both = λ k. effect (work k .reply) (storeOn (work k .tables) (e k)) (work k .list)
+        both : effect (answered (Done v f)) (storeBy t′ register′) l′
+            ≡ effect (acceptedBy t c) (storeBy (nextTables t c) (noted register c)) (listing (freedBy (t .base) c) l)
+        both = λ k. effect (work k .reply) (storeBy (work k .tables) (e k)) (work k .list)
 
 -- one hold more: where a line is needed and none is free, the register refuses
-module _ {c : Command} {i p : ℕ} {t : Tables} {l register : List ℕ} (m : Adds c i p) (same : Itself (storeOn t register) c) (h : i < 32) where
+module _ {c : Command} {i p : ℕ} {t : Tables} {l register : List ℕ} (m : Adds c i p) (same : Itself (storeBy t register) c) (h : i < 32) where
   pub refused-line : tableVerdict (t .base) c ≡ accepted → false ≡ not (noLine register i p)
-      → Did c (storeOn t register) l (effect (answered (Refused Register)) (storeOn t register) l)
+      → Did c (storeBy t register) l (effect (answered (Refused Register)) (storeBy t register) l)
   refused-line tables e =
       refused-last (m .seat) same h tables (unfold registerVerdict in (ap firstOf (m .row register) ∙ row-given (noLine register i p) Register (go (noLine register i p) e)))
     where
@@ -204,22 +204,22 @@ module _ {c : Command} {i p : ℕ} {t : Tables} {l register : List ℕ} (m : Add
 
   pub done-more : {v f : ℕ} {t′ : Tables} {l′ register′ : List ℕ} → true ≡ not (noLine register i p)
       → DidTables c t l (tablesEffect (answered (Done v f)) t′ l′) → register′ ≡ oneMoreBy register i p
-      → Did c (storeOn t register) l (effect (answered (Done v f)) (storeOn t′ register′) l′)
+      → Did c (storeBy t register) l (effect (answered (Done v f)) (storeBy t′ register′) l′)
   done-more e d new =
       done-seated (m .seat) same h (unfold registerVerdict in (ap firstOf (m .row register) ∙ row-passed (noLine register i p) Register (subst T e tt)))
       d (new ∙ sym (m .notes register))
 
 -- one hold less: where the seat has none, the register refuses
-module _ {c : Command} {i p : ℕ} {t : Tables} {l register : List ℕ} (m : Takes c i p) (same : Itself (storeOn t register) c) (h : i < 32) where
+module _ {c : Command} {i p : ℕ} {t : Tables} {l register : List ℕ} (m : Takes c i p) (same : Itself (storeBy t register) c) (h : i < 32) where
   pub refused-yours : tableVerdict (t .base) c ≡ accepted → heldBy register i p ≡ 0
-      → Did c (storeOn t register) l (effect (answered (Refused NotYours)) (storeOn t register) l)
+      → Did c (storeBy t register) l (effect (answered (Refused NotYours)) (storeBy t register) l)
   refused-yours tables e =
       refused-last (m .seat) same h tables
       (unfold registerVerdict in (ap firstOf (m .row register) ∙ row-given (notYours register i p) NotYours (unfold notYours in (eqb-of e))))
 
   pub done-less : {v f : ℕ} {t′ : Tables} {l′ register′ : List ℕ} → (heldBy register i p ≡ 0 → ⊥)
       → DidTables c t l (tablesEffect (answered (Done v f)) t′ l′) → register′ ≡ oneLessBy register i p
-      → Did c (storeOn t register) l (effect (answered (Done v f)) (storeOn t′ register′) l′)
+      → Did c (storeBy t register) l (effect (answered (Done v f)) (storeBy t′ register′) l′)
   done-less some d new =
       done-seated (m .seat) same h
       (unfold registerVerdict in (ap firstOf (m .row register) ∙ row-passed (notYours register i p) NotYours (unfold notYours in (neqb-of some))))

@@ -8,7 +8,7 @@ use lib.Dec.{T, not-T, ltb}
 use lib.ListN.{length, drop}
 use Rattle.rules.specs.Tests.{_or_, _&_, pick}
 use Rattle.rules.specs.Register.{heldBy}
-use Rattle.rules.specs.Tables.{Base, Tables, Store, storeOn, isFrozen}
+use Rattle.rules.specs.Tables.{Base, Tables, Store, storeBy, isFrozen}
 use Rattle.rules.specs.Commands.{isFreeze, isAcquire, isRelease, pieceOf, seatOf, namesSeat, isAgain, meant}
 use Rattle.rules.specs.Commands.{Verdict, accepted, refused, firstOf, seatRefusals, tableRefusals, registerRefusals, refusals, verdict}
 use Rattle.rules.specs.Commands.{edit, settles, freedBy, goneList, noted, nextTables, nextStore}
@@ -116,20 +116,20 @@ bare-noted l (Look p) e = refl
 
 -- so what it did to the tables is what it did to the store
 pub bare-did : {c : Command} {t t′ : Tables} {l l′ register : List ℕ} {a : Reply} → namesSeat c ≡ false → DidTables c t l (tablesEffect a t′ l′)
-    → Did c (storeOn t register) l (effect a (storeOn t′ register) l′)
+    → Did c (storeBy t register) l (effect a (storeBy t′ register) l′)
 unfolding effectOf
 bare-did {c} {t} {t′} {l} {l′} {register} {a} e d = record {
   exact =
-      ap (λ (x : TablesEffect). effect (x .reply) (storeOn (x .tables) register) (x .list)) (d .exact)
+      ap (λ (x : TablesEffect). effect (x .reply) (storeBy (x .tables) register) (x .list)) (d .exact)
       ∙ go (tableVerdict (t .base) c)
-      ∙ ap (effected (storeOn t register) l c) (sym (bare-verdict (storeOn t register) c e));
+      ∙ ap (effected (storeBy t register) l c) (sym (bare-verdict (storeBy t register) c e));
 }
   where
-    go : (v : Verdict) → effect (tablesEffected t l c v .reply) (storeOn (tablesEffected t l c v .tables) register) (tablesEffected t l c v .list)
-        ≡ effected (storeOn t register) l c v
+    go : (v : Verdict) → effect (tablesEffected t l c v .reply) (storeBy (tablesEffected t l c v .tables) register) (tablesEffected t l c v .list)
+        ≡ effected (storeBy t register) l c v
     go accepted = unfold tablesEffected effected nextStore in
-        (ap (λ (x : List ℕ). effect (acceptedBy t c) (storeOn (nextTables t c) x) (listing (freedBy (t .base) c) l)) (sym (bare-noted register c e))
-        ∙ ap (λ (d : Command). effect (acceptedBy t c) (storeOn (nextTables t d) (noted register d)) (listing (freedBy (t .base) c) l)) (sym (bare-itself (storeOn t register) c e .is)))
+        (ap (λ (x : List ℕ). effect (acceptedBy t c) (storeBy (nextTables t c) x) (listing (freedBy (t .base) c) l)) (sym (bare-noted register c e))
+        ∙ ap (λ (d : Command). effect (acceptedBy t c) (storeBy (nextTables t d) (noted register d)) (listing (freedBy (t .base) c) l)) (sym (bare-itself (storeBy t register) c e .is)))
     go (refused r) = unfold tablesEffected effected in refl
 
 -- ---- a command that names a seat
@@ -140,41 +140,41 @@ did-refused-by c s l r e = record { exact = ap (effected s l c) (sym e) }
 
 module _ {c : Command} {t : Tables} {l register : List ℕ} where
   -- it is refused by the seat
-  pub seat-refused : {r : Refusal} → seatVerdict c ≡ refused r → Did c (storeOn t register) l (effect (refusedBy r c) (storeOn t register) l)
+  pub seat-refused : {r : Refusal} → seatVerdict c ≡ refused r → Did c (storeBy t register) l (effect (refusedBy r c) (storeBy t register) l)
   seat-refused {r} e =
-      did-refused-by c (storeOn t register) l r
-      (verdict-is (storeOn t register) c
-      ∙ ap (λ (v : Verdict). andThen v (andThen (tableVerdict (t .base) (meant (storeOn t register) c)) (registerVerdict register (meant (storeOn t register) c)))) e
+      did-refused-by c (storeBy t register) l r
+      (verdict-is (storeBy t register) c
+      ∙ ap (λ (v : Verdict). andThen v (andThen (tableVerdict (t .base) (meant (storeBy t register) c)) (registerVerdict register (meant (storeBy t register) c)))) e
       ∙ (unfold andThen in refl))
 
-  module _ (same : Itself (storeOn t register) c) (seat : seatVerdict c ≡ accepted) where
+  module _ (same : Itself (storeBy t register) c) (seat : seatVerdict c ≡ accepted) where
     -- by the tables
-    pub tables-refused : {r : Refusal} → tableVerdict (t .base) c ≡ refused r → Did c (storeOn t register) l (effect (refusedBy r c) (storeOn t register) l)
+    pub tables-refused : {r : Refusal} → tableVerdict (t .base) c ≡ refused r → Did c (storeBy t register) l (effect (refusedBy r c) (storeBy t register) l)
     tables-refused {r} e =
-        did-refused-by c (storeOn t register) l r
+        did-refused-by c (storeBy t register) l r
         (own-verdict same ∙ (λ i. andThen (seat i) (andThen (e i) (registerVerdict register c))) ∙ (unfold andThen in refl))
 
     module _ (tables : tableVerdict (t .base) c ≡ accepted) where
       -- by the register
-      pub register-refused : {r : Refusal} → registerVerdict register c ≡ refused r → Did c (storeOn t register) l (effect (refusedBy r c) (storeOn t register) l)
+      pub register-refused : {r : Refusal} → registerVerdict register c ≡ refused r → Did c (storeBy t register) l (effect (refusedBy r c) (storeBy t register) l)
       register-refused {r} e =
-          did-refused-by c (storeOn t register) l r
+          did-refused-by c (storeBy t register) l r
           (own-verdict same ∙ (λ i. andThen (seat i) (andThen (tables i) (e i))) ∙ (unfold andThen in refl))
 
       -- or by none of them
       pub all-did : registerVerdict register c ≡ accepted
-          → Did c (storeOn t register) l (effect (acceptedBy t c) (storeOn (nextTables t c) (noted register c)) (listing (freedBy (t .base) c) l))
+          → Did c (storeBy t register) l (effect (acceptedBy t c) (storeBy (nextTables t c) (noted register c)) (listing (freedBy (t .base) c) l))
       unfolding effectOf
       all-did e = record {
         exact =
             done
-            ∙ ap (effected (storeOn t register) l c)
+            ∙ ap (effected (storeBy t register) l c)
             (sym (own-verdict same ∙ (λ i. andThen (seat i) (andThen (tables i) (e i))) ∙ (unfold andThen in refl)));
       }
         where
-          done : effect (acceptedBy t c) (storeOn (nextTables t c) (noted register c)) (listing (freedBy (t .base) c) l) ≡ effected (storeOn t register) l c accepted
+          done : effect (acceptedBy t c) (storeBy (nextTables t c) (noted register c)) (listing (freedBy (t .base) c) l) ≡ effected (storeBy t register) l c accepted
           done = unfold effected nextStore in
-              (ap (λ (d : Command). effect (acceptedBy t c) (storeOn (nextTables t d) (noted register d)) (listing (freedBy (t .base) c) l)) (sym (same .is)))
+              (ap (λ (d : Command). effect (acceptedBy t c) (storeBy (nextTables t d) (noted register d)) (listing (freedBy (t .base) c) l)) (sym (same .is)))
 
 -- ---- the table's order
 

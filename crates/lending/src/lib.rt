@@ -66,6 +66,7 @@ fn pour(
     holds: &mut [u16],
     counts: &mut [u32],
     register: &mut [u16],
+    into: &mut [u16],
     list: &mut [u16],
     work: &mut [u32],
     from: usize,
@@ -73,11 +74,11 @@ fn pour(
     room: &mut [u8],
     start: usize,
 ) -> Place
-    requires { ⌜ Stands n (storeOf n (now states) (now links) (now leaders) (now holds) (now counts) (now register)) (now list) (now work) from
+    requires { ⌜ Stands n (storeOf n (now states) (now links) (now leaders) (now holds) (now counts) (now register) (now into)) (now list) (now work) from
         × Closed (now text) × (longest ≤ length (now out)) × (start ≤ length (now room)) ⌝ }
-    ensures { λ r. ⌜ Poured n (storeOf n (now (states .entry)) (now (links .entry)) (now (leaders .entry)) (now (holds .entry)) (now (counts .entry)) (now (register .entry)))
+    ensures { λ r. ⌜ Poured n (storeOf n (now (states .entry)) (now (links .entry)) (now (leaders .entry)) (now (holds .entry)) (now (counts .entry)) (now (register .entry)) (now (into .entry)))
         (now (text .entry)) (now (room .entry)) start
-        (storeOf n (now (states .exit)) (now (links .exit)) (now (leaders .exit)) (now (holds .exit)) (now (counts .exit)) (now (register .exit)))
+        (storeOf n (now (states .exit)) (now (links .exit)) (now (leaders .exit)) (now (holds .exit)) (now (counts .exit)) (now (register .exit)) (now (into .exit)))
         (now (list .exit)) (now (work .exit)) (now (room .exit)) r ⌝ }
 {
     let mut at = 0;
@@ -93,6 +94,7 @@ fn pour(
             holds,
             counts,
             register,
+            into,
             list,
             work,
             low,
@@ -140,16 +142,17 @@ fn pour_all(
     holds: &mut [u16],
     counts: &mut [u32],
     register: &mut [u16],
+    into: &mut [u16],
     list: &mut [u16],
     work: &mut [u32],
     from: usize,
     out: &mut [u8],
     room: &mut [u8],
 ) -> Place
-    requires { ⌜ Stands n (storeOf n (now states) (now links) (now leaders) (now holds) (now counts) (now register)) (now list) (now work) from × (longest ≤ length (now out)) ⌝ }
-    ensures { λ r. ⌜ Filled n (storeOf n (now (states .entry)) (now (links .entry)) (now (leaders .entry)) (now (holds .entry)) (now (counts .entry)) (now (register .entry)))
+    requires { ⌜ Stands n (storeOf n (now states) (now links) (now leaders) (now holds) (now counts) (now register) (now into)) (now list) (now work) from × (longest ≤ length (now out)) ⌝ }
+    ensures { λ r. ⌜ Filled n (storeOf n (now (states .entry)) (now (links .entry)) (now (leaders .entry)) (now (holds .entry)) (now (counts .entry)) (now (register .entry)) (now (into .entry)))
         (now (text .entry)) (now (room .entry))
-        (storeOf n (now (states .exit)) (now (links .exit)) (now (leaders .exit)) (now (holds .exit)) (now (counts .exit)) (now (register .exit)))
+        (storeOf n (now (states .exit)) (now (links .exit)) (now (leaders .exit)) (now (holds .exit)) (now (counts .exit)) (now (register .exit)) (now (into .exit)))
         (now (list .exit)) (now (work .exit)) (now (room .exit)) r ⌝ }
 {
     let whole = reader::whole(text);
@@ -162,6 +165,7 @@ fn pour_all(
         holds,
         counts,
         register,
+        into,
         list,
         work,
         from,
@@ -183,6 +187,7 @@ fn pour_all(
         holds,
         counts,
         register,
+        into,
         list,
         work,
         low,
@@ -227,6 +232,7 @@ pub fn lent_trace(text: &[u8], room: &mut [u8]) -> u64
     let mut holds = [0u16; 1024];
     let mut counts = [0u32; 1024];
     let mut register = [0u16; Store::ENTRIES];
+    let mut into = [0u16; 1024];
     let mut list = [0u16; 1024];
     let mut work = [0u32; 8192];
     let mut out = [0u8; 8192];
@@ -239,6 +245,7 @@ pub fn lent_trace(text: &[u8], room: &mut [u8]) -> u64
         &mut holds,
         &mut counts,
         &mut register,
+        &mut into,
         &mut list,
         &mut work,
         0,

@@ -4,9 +4,10 @@ use mathlib.Core.Bool.{Bool, true, false, true≢false}
 use mathlib.Core.List.{List, []}
 use Prim.Native.Nat.{ℕ, _≤_}
 use native.Mathlib.Omega.{arith}
+use lib.ListN.{length}
 use Rattle.rules.specs.Tables.{Store, finish}
 use Rattle.rules.specs.Commands.{Verdict, accepted, refused, verdict, settles, meant, nextTables, nextStore, settled, stepTo}
-use Rattle.rules.specs.Calls.{Reply, answered, Effect, effect, effected, effectOf, ReadyStore, Clear, Did}
+use Rattle.rules.specs.Calls.{Reply, answered, Effect, effect, effected, effectOf, ReadyStore, Did}
 use Rattle.rules.specs.declared.Command.{Command}
 use Rattle.rules.specs.declared.Command.the-variants.{New, Set, Freeze, Acquire, Release, Bin, Look}
 use Rattle.rules.specs.declared.Answer.{Answer}
@@ -57,16 +58,15 @@ bins (Look p) = false
 
 -- what was done leaves a store that stands, with a number below which nothing is free
 obeyed : {c d : Command} {s s′ : Store} {l l′ w w′ : List ℕ} {a : Reply} {from from′ : ℕ}
-    → c ≡ d → Stands (s .tables .base .n) s l w from → Did d s l (effect a s′ l′) → w′ ≡ w
+    → c ≡ d → Stands (s .tables .base .n) s l w from → Did d s l (effect a s′ l′) → length w′ ≡ length w
     → from′ ≤ s .tables .base .n → NoneFree (s′ .tables .base .states) from′ → Obeys c s l w a s′ l′ w′ from′
 obeyed {c} {d} {s} {s′} {l} {l′} {w} {w′} {a} {from′ = from′} is stands did same small none =
     subst (λ (x : Command). Obeys x s l w a s′ l′ w′ from′) (sym is) (record {
       did = did;
-      clear = same;
       stands = record {
         ready = subst ReadyStore (sym (store-after did)) (ready-after s (stands .ready) d);
         room = let room = stands .room in omega (arith, listed-length did);
-        clear = subst (Clear (s .tables .base .n)) (sym same) (stands .clear);
+        wide = let wide = stands .wide in omega (arith, same);
         small = small;
         none = none;
       };
@@ -85,7 +85,7 @@ obeyed-new {s = s} {s′} {l} {a = a} is stands did e =
 
 -- a command that frees nothing: freeze, acquire, look
 pub obeyed-kept : {c d : Command} {s s′ : Store} {l w w′ : List ℕ} {a : Reply} {from : ℕ}
-    → c ≡ d → settles d ≡ false → Stands (s .tables .base .n) s l w from → Did d s [] (effect a s′ []) → w′ ≡ w
+    → c ≡ d → settles d ≡ false → Stands (s .tables .base .n) s l w from → Did d s [] (effect a s′ []) → length w′ ≡ length w
     → Obeys c s l w a s′ l w′ from
 unfolding settles
 obeyed-kept {d = d} {s} {s′} {l} {a = a} is off stands did same =

@@ -85,15 +85,17 @@ pub fn obey(
     holds: &mut [u16],
     counts: &mut [u32],
     register: &mut [u16],
+    into: &mut [u16],
     list: &mut [u16],
     work: &mut [u32],
     from: usize,
     command: Command,
 ) -> Obeyed
-    requires { ⌜ Stands n (storeOf n (now states) (now links) (now leaders) (now holds) (now counts) (now register)) (now list) (now work) from ⌝ }
-    ensures { λ r. ⌜ Obeys command (storeOf n (now (states .entry)) (now (links .entry)) (now (leaders .entry)) (now (holds .entry)) (now (counts .entry)) (now (register .entry)))
+    requires { ⌜ Stands n (storeOf n (now states) (now links) (now leaders) (now holds) (now counts) (now register) (now into)) (now list) (now work) from ⌝ }
+    ensures { λ r. ⌜ Obeys command
+        (storeOf n (now (states .entry)) (now (links .entry)) (now (leaders .entry)) (now (holds .entry)) (now (counts .entry)) (now (register .entry)) (now (into .entry)))
         (now (list .entry)) (now (work .entry)) (replyOf (r .reply))
-        (storeOf n (now (states .exit)) (now (links .exit)) (now (leaders .exit)) (now (holds .exit)) (now (counts .exit)) (now (register .exit)))
+        (storeOf n (now (states .exit)) (now (links .exit)) (now (leaders .exit)) (now (holds .exit)) (now (counts .exit)) (now (register .exit)) (now (into .exit)))
         (now (list .exit)) (now (work .exit)) (r .from) ⌝ }
 {
     match command {
@@ -105,7 +107,19 @@ pub fn obey(
             }
         }
         Command::Set { p, k, t } => {
-            let answer = setting::set_link(n, states, links, leaders, holds, counts, list, p, k, t);
+            let answer = setting::set_link(
+                n,
+                states,
+                links,
+                leaders,
+                holds,
+                counts,
+                into,
+                list,
+                p,
+                k,
+                t,
+            );
             Obeyed {
                 reply: Reply::Answered(answer),
                 from: lower(answer, list, from),
@@ -120,6 +134,7 @@ pub fn obey(
                 holds,
                 counts,
                 register,
+                into,
                 work,
                 p,
                 seat,
@@ -155,7 +170,7 @@ pub fn obey(
             }
         }
         Command::Bin(p) => {
-            let answer = binning::bin(n, states, links, leaders, holds, counts, list, p);
+            let answer = binning::bin(n, states, links, leaders, holds, counts, into, list, p);
             Obeyed {
                 reply: Reply::Answered(answer),
                 from: lower_bin(answer, list, from, p),

@@ -5,7 +5,7 @@ use mathlib.Core.Logic.{_⊎_}
 use Prim.Native.Nat.{ℕ, zero, suc, pred, _+_, _-_, _*_, _≤_, _<_}
 use lib.ListN.{length}
 use Rattle.rules.specs.Lists.{_!_}
-use Rattle.paths.specs.Ground.{Ground, Way, Leads}
+use Rattle.paths.specs.Ground.{Ground, Way, Leads, Reached}
 
 -- the mark of a finished piece; 0 is unseen, and q + 1 is on the stack at position q
 abbrev pub finishedMark : ℕ
@@ -25,12 +25,13 @@ unfoldable pub rest : List ℕ → ℕ → ℕ
 rest l zero = 0
 rest l (suc n) = (4 - l ! n) + rest l n
 
--- the marks and the stack agree: the first `size` entries of the stack are pieces of the class, each once
-pub record Stack (g : Ground) (marks stack : List ℕ) (size : ℕ) : Type 0 where
+-- the marks and the stack agree: the first `size` entries of the stack are pieces that root reaches, each once
+pub record Stack (g : Ground) (root : ℕ) (marks stack : List ℕ) (size : ℕ) : Type 0 where
   pub stack-lt : (q : ℕ) → q < size → stack ! q < g .n
   pub stack-marks : (q : ℕ) → q < size → marks ! (stack ! q) ≡ suc q
-  pub marks-stack : (v : ℕ) → v < g .n → (marks ! v ≡ 0 → ⊥) → (marks ! v ≡ finishedMark → ⊥) → (q : ℕ) × (marks ! v ≡ suc q) × (q < size) × (stack ! q ≡ v)
-  pub inside : (v : ℕ) → v < g .n → (marks ! v ≡ 0 → ⊥) → g .state v ≡ g .class
+  pub stack-in : (q : ℕ) → q < size → Reached g root (stack ! q)
+  pub marks-stack : (v : ℕ) → v < g .n → Reached g root v → (marks ! v ≡ 0 → ⊥) → (marks ! v ≡ finishedMark → ⊥)
+      → (q : ℕ) × (marks ! v ≡ suc q) × (q < size) × (stack ! q ≡ v)
   pub few : size ≤ count marks (g .n)
 
 -- the starts of the blocks rise from 0
@@ -51,23 +52,21 @@ pub record Trail (g : Ground) (next stack starts parents : List ℕ) (size block
   pub back : (q : ℕ) → suc q < size → ((i : ℕ) → i < blocks → starts ! i ≡ suc q → ⊥) → Way g (stack ! suc q) (stack ! q)
 
 -- every explored place names a piece that is finished, or at or above the start of its own block
-pub record Explored (g : Ground) (marks next stack starts : List ℕ) (size blocks : ℕ) : Type 0 where
-  pub four : (v : ℕ) → v < g .n → next ! v ≤ 4
-  pub fresh : (v : ℕ) → v < g .n → marks ! v ≡ 0 → next ! v ≡ 0
+pub record Explored (g : Ground) (root : ℕ) (marks next stack starts : List ℕ) (size blocks : ℕ) : Type 0 where
+  pub four : (v : ℕ) → v < g .n → Reached g root v → next ! v ≤ 4
+  pub fresh : (v : ℕ) → v < g .n → Reached g root v → marks ! v ≡ 0 → next ! v ≡ 0
   pub seen : (q : ℕ) → q < size → (j : ℕ) → j < next ! (stack ! q) → g .at (stack ! q) j < g .n → g .state (g .at (stack ! q) j) ≡ g .class
       → (i : ℕ) → i < blocks → starts ! i ≤ q → starts ! i < marks ! (g .at (stack ! q) j)
 
--- what is finished is closed under the links
-abbrev pub MarksClosed : Ground → List ℕ → Type 0
-MarksClosed g marks =
-    (x : ℕ) → x < g .n → marks ! x ≡ finishedMark → (j : ℕ) → j < 4 → g .at x j < g .n → g .state (g .at x j) ≡ g .class → marks ! (g .at x j) ≡ finishedMark
+-- what is finished of the pieces with P is closed under the links
+abbrev pub MarksClosed : Ground → (ℕ → Type 0) → List ℕ → Type 0
+MarksClosed g P marks =
+    (x : ℕ) → x < g .n → P x → marks ! x ≡ finishedMark → (j : ℕ) → j < 4 → g .at x j < g .n → g .state (g .at x j) ≡ g .class → marks ! (g .at x j) ≡ finishedMark
 
--- what is finished is closed under the links, has its leader, and was finished before or is reached from the root
-pub record Ends (g : Ground) (old marks leaders : List ℕ) (root : ℕ) : Type 0 where
-  pub closed : MarksClosed g marks
-  pub exact : (x : ℕ) → x < g .n → marks ! x ≡ finishedMark → Leads g x (leaders ! x)
-  pub «from» : (x : ℕ) → x < g .n → marks ! x ≡ finishedMark → (old ! x ≡ finishedMark) ⊎ Way g root x
-  pub kept : (x : ℕ) → x < g .n → old ! x ≡ finishedMark → marks ! x ≡ finishedMark
+-- what root reaches and is finished is closed under the links, and has its leader
+pub record Ends (g : Ground) (root : ℕ) (marks leaders : List ℕ) : Type 0 where
+  pub closed : MarksClosed g (Reached g root) marks
+  pub exact : (x : ℕ) → x < g .n → Reached g root x → marks ! x ≡ finishedMark → Leads g x (leaders ! x)
 
 -- the search stands at a position of the last block; every piece above it is explored
 pub record Standing (g : Ground) (next stack starts : List ℕ) (root size blocks stand : ℕ) : Type 0 where
@@ -94,38 +93,41 @@ pub record RegionsSized (n : ℕ) (s : Regions) : Type 0 where
   pub starts-n : length (s .starts) ≡ n
   pub parents-n : length (s .parents) ≡ n
 
+-- what root does not reach is as it was before
+pub record Others (g : Ground) (root : ℕ) (old : Regions) (marks next leaders : List ℕ) : Type 0 where
+  pub same : (v : ℕ) → v < g .n → Reached g root v ⊎ ((marks ! v ≡ old .marks ! v) × (next ! v ≡ old .next ! v) × (leaders ! v ≡ old .leaders ! v))
+
 -- what holds wherever the search stands
-pub record Steady (g : Ground) (old : List ℕ) (root : ℕ) (s : Regions) (size blocks : ℕ) : Type 0 where
+pub record Steady (g : Ground) (old : Regions) (root : ℕ) (s : Regions) (size blocks : ℕ) : Type 0 where
   pub small : g .n ≤ 1024
   pub sizes : RegionsSized (g .n) s
-  pub stack : Stack g (s .marks) (s .stack) size
+  pub stack : Stack g root (s .marks) (s .stack) size
   pub bounds : Starts (s .starts) size blocks
   pub trail : Trail g (s .next) (s .stack) (s .starts) (s .parents) size blocks
-  pub explored : Explored g (s .marks) (s .next) (s .stack) (s .starts) size blocks
-  pub ends : Ends g old (s .marks) (s .leaders) root
+  pub explored : Explored g root (s .marks) (s .next) (s .stack) (s .starts) size blocks
+  pub ends : Ends g root (s .marks) (s .leaders)
+  pub others : Others g root old (s .marks) (s .next) (s .leaders)
 
 -- with `size` pieces on the stack, in `blocks` blocks, the search at position `stand`
-pub record Invariant (g : Ground) (old : List ℕ) (root : ℕ) (s : Regions) (size blocks stand : ℕ) : Type 0 where
+pub record Invariant (g : Ground) (old : Regions) (root : ℕ) (s : Regions) (size blocks stand : ℕ) : Type 0 where
   pub base : Steady g old root s size blocks
   pub live : 0 < size → Standing g (s .next) (s .stack) (s .starts) root size blocks stand
   pub rooted : s .marks ! root ≡ 0 → ⊥
 
--- between two searches: each piece is unseen or finished
-pub record Calm (g : Ground) (marks next leaders : List ℕ) : Type 0 where
+-- between two searches: each piece with P is unseen or finished
+pub record Calm (g : Ground) (P : ℕ → Type 0) (marks next leaders : List ℕ) : Type 0 where
   pub small : g .n ≤ 1024
-  pub either : (v : ℕ) → v < g .n → (marks ! v ≡ 0) ⊎ (marks ! v ≡ finishedMark)
-  pub inside : (v : ℕ) → v < g .n → marks ! v ≡ finishedMark → g .state v ≡ g .class
-  pub four : (v : ℕ) → v < g .n → next ! v ≤ 4
-  pub fresh : (v : ℕ) → v < g .n → marks ! v ≡ 0 → next ! v ≡ 0
-  pub closed : MarksClosed g marks
-  pub exact : (x : ℕ) → x < g .n → marks ! x ≡ finishedMark → Leads g x (leaders ! x)
+  pub either : (v : ℕ) → v < g .n → P v → (marks ! v ≡ 0) ⊎ (marks ! v ≡ finishedMark)
+  pub four : (v : ℕ) → v < g .n → P v → next ! v ≤ 4
+  pub fresh : (v : ℕ) → v < g .n → P v → marks ! v ≡ 0 → next ! v ≡ 0
+  pub closed : MarksClosed g P marks
+  pub exact : (x : ℕ) → x < g .n → P x → marks ! x ≡ finishedMark → Leads g x (leaders ! x)
 
 -- what a search from root has done
-pub record Visited (g : Ground) (old marks next leaders : List ℕ) (root : ℕ) : Type 0 where
-  pub calm : Calm g marks next leaders
-  pub kept : (x : ℕ) → x < g .n → old ! x ≡ finishedMark → marks ! x ≡ finishedMark
-  pub reached : (x : ℕ) → x < g .n → g .state x ≡ g .class → Way g root x → marks ! x ≡ finishedMark
-  pub «only» : (x : ℕ) → x < g .n → marks ! x ≡ finishedMark → (old ! x ≡ finishedMark) ⊎ Way g root x
+pub record Visited (g : Ground) (old : Regions) (marks next leaders : List ℕ) (root : ℕ) : Type 0 where
+  pub calm : Calm g (Reached g root) marks next leaders
+  pub all : (x : ℕ) → x < g .n → Reached g root x → marks ! x ≡ finishedMark
+  pub others : Others g root old marks next leaders
 
 -- the height of the search: falls with each step that explores no place
 abbrev pub height : ℕ → ℕ → ℕ

@@ -20,12 +20,13 @@ pub extern "C" fn pieces_start(
     holds: &mut [u16],
     counts: &mut [u32],
     register: &mut [u16],
+    into: &mut [u16],
 ) -> u64
     ensures { λ r. ⌜ Packs start
-        (areasOf (storeOf n (now (states .entry)) (now (links .entry)) (now (leaders .entry)) (now (holds .entry)) (now (counts .entry)) (now (register .entry))) [] [])
-        r (areasOf (storeOf n (now (states .exit)) (now (links .exit)) (now (leaders .exit)) (now (holds .exit)) (now (counts .exit)) (now (register .exit))) [] []) ⌝ }
+        (areasOf (storeOf n (now (states .entry)) (now (links .entry)) (now (leaders .entry)) (now (holds .entry)) (now (counts .entry)) (now (register .entry)) (now (into .entry))) [] [])
+        r (areasOf (storeOf n (now (states .exit)) (now (links .exit)) (now (leaders .exit)) (now (holds .exit)) (now (counts .exit)) (now (register .exit)) (now (into .exit))) [] []) ⌝ }
 {
-    packing::pack(store::start(n, states, links, leaders, holds, counts, register))
+    packing::pack(store::start(n, states, links, leaders, holds, counts, register, into))
 }
 
 // The lowest free number becomes a draft with four empty links; its number is the value.
@@ -38,14 +39,15 @@ pub extern "C" fn pieces_new(
     holds: &[u16],
     counts: &[u32],
     register: &[u16],
+    into: &[u16],
     list: &[u16],
     work: &mut [u32],
 ) -> u64
     ensures { λ r. ⌜ Packs (does New)
-        (areasOf (storeOf n (now (states .entry)) (now (links .entry)) (now (leaders .entry)) (now (holds .entry)) (now (counts .entry)) (now (register .entry))) (now (list .entry))
-        (now (work .entry)))
-        r (areasOf (storeOf n (now (states .exit)) (now (links .entry)) (now (leaders .entry)) (now (holds .entry)) (now (counts .entry)) (now (register .entry))) (now (list .entry))
-        (now (work .exit))) ⌝ }
+        (areasOf (storeOf n (now (states .entry)) (now (links .entry)) (now (leaders .entry)) (now (holds .entry)) (now (counts .entry)) (now (register .entry)) (now (into .entry)))
+        (now (list .entry)) (now (work .entry)))
+        r (areasOf (storeOf n (now (states .exit)) (now (links .entry)) (now (leaders .entry)) (now (holds .entry)) (now (counts .entry)) (now (register .entry)) (now (into .entry)))
+        (now (list .entry)) (now (work .exit))) ⌝ }
 {
     packing::pack(store::new(
         n,
@@ -55,6 +57,7 @@ pub extern "C" fn pieces_new(
         holds,
         counts,
         register,
+        into,
         list,
         work,
     ))
@@ -70,6 +73,7 @@ pub extern "C" fn pieces_set(
     holds: &[u16],
     counts: &mut [u32],
     register: &[u16],
+    into: &mut [u16],
     list: &mut [u16],
     work: &mut [u32],
     p: u16,
@@ -77,10 +81,10 @@ pub extern "C" fn pieces_set(
     t: u16,
 ) -> u64
     ensures { λ r. ⌜ Packs (does (Set p k t))
-        (areasOf (storeOf n (now (states .entry)) (now (links .entry)) (now (leaders .entry)) (now (holds .entry)) (now (counts .entry)) (now (register .entry))) (now (list .entry))
-        (now (work .entry)))
-        r (areasOf (storeOf n (now (states .exit)) (now (links .exit)) (now (leaders .exit)) (now (holds .entry)) (now (counts .exit)) (now (register .entry))) (now (list .exit))
-        (now (work .exit))) ⌝ }
+        (areasOf (storeOf n (now (states .entry)) (now (links .entry)) (now (leaders .entry)) (now (holds .entry)) (now (counts .entry)) (now (register .entry)) (now (into .entry)))
+        (now (list .entry)) (now (work .entry)))
+        r (areasOf (storeOf n (now (states .exit)) (now (links .exit)) (now (leaders .exit)) (now (holds .entry)) (now (counts .exit)) (now (register .entry)) (now (into .exit)))
+        (now (list .exit)) (now (work .exit))) ⌝ }
 {
     packing::pack(store::set(
         n,
@@ -90,6 +94,7 @@ pub extern "C" fn pieces_set(
         holds,
         counts,
         register,
+        into,
         list,
         work,
         p,
@@ -108,16 +113,17 @@ pub extern "C" fn pieces_freeze(
     holds: &mut [u16],
     counts: &mut [u32],
     register: &mut [u16],
+    into: &mut [u16],
     list: &[u16],
     work: &mut [u32],
     p: u16,
     seat: u16,
 ) -> u64
     ensures { λ r. ⌜ Packs (does (Freeze p seat))
-        (areasOf (storeOf n (now (states .entry)) (now (links .entry)) (now (leaders .entry)) (now (holds .entry)) (now (counts .entry)) (now (register .entry))) (now (list .entry))
-        (now (work .entry)))
-        r (areasOf (storeOf n (now (states .exit)) (now (links .entry)) (now (leaders .exit)) (now (holds .exit)) (now (counts .exit)) (now (register .exit))) (now (list .entry))
-        (now (work .exit))) ⌝ }
+        (areasOf (storeOf n (now (states .entry)) (now (links .entry)) (now (leaders .entry)) (now (holds .entry)) (now (counts .entry)) (now (register .entry)) (now (into .entry)))
+        (now (list .entry)) (now (work .entry)))
+        r (areasOf (storeOf n (now (states .exit)) (now (links .entry)) (now (leaders .exit)) (now (holds .exit)) (now (counts .exit)) (now (register .exit)) (now (into .exit)))
+        (now (list .entry)) (now (work .exit))) ⌝ }
 {
     packing::pack(store::freeze(
         n,
@@ -127,6 +133,7 @@ pub extern "C" fn pieces_freeze(
         holds,
         counts,
         register,
+        into,
         list,
         work,
         p,
@@ -144,16 +151,17 @@ pub extern "C" fn pieces_acquire(
     holds: &mut [u16],
     counts: &mut [u32],
     register: &mut [u16],
+    into: &[u16],
     list: &[u16],
     work: &mut [u32],
     p: u16,
     seat: u16,
 ) -> u64
     ensures { λ r. ⌜ Packs (does (Acquire p seat))
-        (areasOf (storeOf n (now (states .entry)) (now (links .entry)) (now (leaders .entry)) (now (holds .entry)) (now (counts .entry)) (now (register .entry))) (now (list .entry))
-        (now (work .entry)))
-        r (areasOf (storeOf n (now (states .entry)) (now (links .entry)) (now (leaders .entry)) (now (holds .exit)) (now (counts .exit)) (now (register .exit))) (now (list .entry))
-        (now (work .exit))) ⌝ }
+        (areasOf (storeOf n (now (states .entry)) (now (links .entry)) (now (leaders .entry)) (now (holds .entry)) (now (counts .entry)) (now (register .entry)) (now (into .entry)))
+        (now (list .entry)) (now (work .entry)))
+        r (areasOf (storeOf n (now (states .entry)) (now (links .entry)) (now (leaders .entry)) (now (holds .exit)) (now (counts .exit)) (now (register .exit)) (now (into .entry)))
+        (now (list .entry)) (now (work .exit))) ⌝ }
 {
     packing::pack(store::acquire(
         n,
@@ -163,6 +171,7 @@ pub extern "C" fn pieces_acquire(
         holds,
         counts,
         register,
+        into,
         list,
         work,
         p,
@@ -180,16 +189,17 @@ pub extern "C" fn pieces_release(
     holds: &mut [u16],
     counts: &mut [u32],
     register: &mut [u16],
+    into: &[u16],
     list: &mut [u16],
     work: &mut [u32],
     p: u16,
     seat: u16,
 ) -> u64
     ensures { λ r. ⌜ Packs (does (Release p seat))
-        (areasOf (storeOf n (now (states .entry)) (now (links .entry)) (now (leaders .entry)) (now (holds .entry)) (now (counts .entry)) (now (register .entry))) (now (list .entry))
-        (now (work .entry)))
-        r (areasOf (storeOf n (now (states .exit)) (now (links .exit)) (now (leaders .exit)) (now (holds .exit)) (now (counts .exit)) (now (register .exit))) (now (list .exit)) (now (work .exit)))
-        ⌝ }
+        (areasOf (storeOf n (now (states .entry)) (now (links .entry)) (now (leaders .entry)) (now (holds .entry)) (now (counts .entry)) (now (register .entry)) (now (into .entry)))
+        (now (list .entry)) (now (work .entry)))
+        r (areasOf (storeOf n (now (states .exit)) (now (links .exit)) (now (leaders .exit)) (now (holds .exit)) (now (counts .exit)) (now (register .exit)) (now (into .entry)))
+        (now (list .exit)) (now (work .exit))) ⌝ }
 {
     packing::pack(store::release(
         n,
@@ -199,6 +209,7 @@ pub extern "C" fn pieces_release(
         holds,
         counts,
         register,
+        into,
         list,
         work,
         p,
@@ -216,15 +227,16 @@ pub extern "C" fn pieces_bin(
     holds: &[u16],
     counts: &mut [u32],
     register: &[u16],
+    into: &mut [u16],
     list: &mut [u16],
     work: &mut [u32],
     p: u16,
 ) -> u64
     ensures { λ r. ⌜ Packs (does (Bin p))
-        (areasOf (storeOf n (now (states .entry)) (now (links .entry)) (now (leaders .entry)) (now (holds .entry)) (now (counts .entry)) (now (register .entry))) (now (list .entry))
-        (now (work .entry)))
-        r (areasOf (storeOf n (now (states .exit)) (now (links .exit)) (now (leaders .exit)) (now (holds .entry)) (now (counts .exit)) (now (register .entry))) (now (list .exit))
-        (now (work .exit))) ⌝ }
+        (areasOf (storeOf n (now (states .entry)) (now (links .entry)) (now (leaders .entry)) (now (holds .entry)) (now (counts .entry)) (now (register .entry)) (now (into .entry)))
+        (now (list .entry)) (now (work .entry)))
+        r (areasOf (storeOf n (now (states .exit)) (now (links .exit)) (now (leaders .exit)) (now (holds .entry)) (now (counts .exit)) (now (register .entry)) (now (into .exit)))
+        (now (list .exit)) (now (work .exit))) ⌝ }
 {
     packing::pack(store::bin(
         n,
@@ -234,6 +246,7 @@ pub extern "C" fn pieces_bin(
         holds,
         counts,
         register,
+        into,
         list,
         work,
         p,
@@ -250,14 +263,28 @@ pub extern "C" fn pieces_look(
     holds: &[u16],
     counts: &[u32],
     register: &[u16],
+    into: &[u16],
     work: &mut [u32],
     p: u16,
 ) -> u64
     ensures { λ r. ⌜ Packs (does (Look p))
-        (areasOf (storeOf n (now (states .entry)) (now (links .entry)) (now (leaders .entry)) (now (holds .entry)) (now (counts .entry)) (now (register .entry))) [] (now (work .entry)))
-        r (areasOf (storeOf n (now (states .entry)) (now (links .entry)) (now (leaders .entry)) (now (holds .entry)) (now (counts .entry)) (now (register .entry))) [] (now (work .exit))) ⌝ }
+        (areasOf (storeOf n (now (states .entry)) (now (links .entry)) (now (leaders .entry)) (now (holds .entry)) (now (counts .entry)) (now (register .entry)) (now (into .entry)))
+        [] (now (work .entry)))
+        r (areasOf (storeOf n (now (states .entry)) (now (links .entry)) (now (leaders .entry)) (now (holds .entry)) (now (counts .entry)) (now (register .entry)) (now (into .entry)))
+        [] (now (work .exit))) ⌝ }
 {
-    packing::pack_seen(store::look(n, states, links, leaders, holds, counts, register, work, p))
+    packing::pack_seen(store::look(
+        n,
+        states,
+        links,
+        leaders,
+        holds,
+        counts,
+        register,
+        into,
+        work,
+        p,
+    ))
 }
 
 // Yes exactly if the store is sound.
@@ -270,13 +297,26 @@ pub extern "C" fn pieces_check(
     holds: &[u16],
     counts: &[u32],
     register: &[u16],
+    into: &[u16],
     work: &mut [u32],
 ) -> u64
     ensures { λ r. ⌜ Packs check
-        (areasOf (storeOf n (now (states .entry)) (now (links .entry)) (now (leaders .entry)) (now (holds .entry)) (now (counts .entry)) (now (register .entry))) [] (now (work .entry)))
-        r (areasOf (storeOf n (now (states .entry)) (now (links .entry)) (now (leaders .entry)) (now (holds .entry)) (now (counts .entry)) (now (register .entry))) [] (now (work .exit))) ⌝ }
+        (areasOf (storeOf n (now (states .entry)) (now (links .entry)) (now (leaders .entry)) (now (holds .entry)) (now (counts .entry)) (now (register .entry)) (now (into .entry)))
+        [] (now (work .entry)))
+        r (areasOf (storeOf n (now (states .entry)) (now (links .entry)) (now (leaders .entry)) (now (holds .entry)) (now (counts .entry)) (now (register .entry)) (now (into .entry)))
+        [] (now (work .exit))) ⌝ }
 {
-    packing::pack_checked(store::check(n, states, links, leaders, holds, counts, register, work))
+    packing::pack_checked(store::check(
+        n,
+        states,
+        links,
+        leaders,
+        holds,
+        counts,
+        register,
+        into,
+        work,
+    ))
 }
 
 // A trace lent in memory: the output's length, and the room holds the output, then zeros; or LONG or ROOM above 2^63.

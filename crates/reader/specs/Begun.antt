@@ -1,7 +1,7 @@
 -- The empty store stands: where a trace begins.
 use Prim.Native.Nat.{ℕ, _*_, _≤_, zero-le}
 use native.Mathlib.Omega.{arith}
-use lib.ListN.{replicate, length-replicate, getD-replicate}
+use lib.ListN.{replicate, length-replicate}
 use Rattle.rules.specs.Limits.{most}
 use Rattle.rules.specs.Tables.{emptyTables, empty}
 use Rattle.demands.specs.Sound.{empty-ok}
@@ -12,7 +12,7 @@ pub begun : (n : ℕ) → 1 ≤ n → n ≤ most → Stands n (empty n) (replica
 begun n a b = record {
   ready = record { least = unfold empty emptyTables in a; sized = empty-ok n b .sized; sound = empty-ok n b .sound };
   room = omega (arith, length-replicate {A = ℕ} n 0);
-  clear = record { size = omega (arith, length-replicate {A = ℕ} (8 * n) 0); zeros = λ i h. getD-replicate {A = ℕ} (8 * n) i 0 0 h };
+  wide = omega (arith, length-replicate {A = ℕ} (8 * n) 0);
   small = zero-le;
   none = λ q k. absurd (omega arith);
 }

@@ -49,17 +49,18 @@ fn act(
     holds: &mut [u16],
     counts: &mut [u32],
     register: &mut [u16],
+    into: &mut [u16],
     list: &mut [u16],
     work: &mut [u32],
     from: usize,
     out: &mut [u8],
     at: usize,
 ) -> Step
-    requires { ⌜ Stands n (storeOf n (now states) (now links) (now leaders) (now holds) (now counts) (now register)) (now list) (now work) from
+    requires { ⌜ Stands n (storeOf n (now states) (now links) (now leaders) (now holds) (now counts) (now register) (now into)) (now list) (now work) from
         × (at + longest ≤ length (now out)) ⌝ }
-    ensures { λ r. ⌜ Answered n (storeOf n (now (states .entry)) (now (links .entry)) (now (leaders .entry)) (now (holds .entry)) (now (counts .entry)) (now (register .entry)))
+    ensures { λ r. ⌜ Answered n (storeOf n (now (states .entry)) (now (links .entry)) (now (leaders .entry)) (now (holds .entry)) (now (counts .entry)) (now (register .entry)) (now (into .entry)))
         (Does command) (now (out .entry)) at
-        (storeOf n (now (states .exit)) (now (links .exit)) (now (leaders .exit)) (now (holds .exit)) (now (counts .exit)) (now (register .exit)))
+        (storeOf n (now (states .exit)) (now (links .exit)) (now (leaders .exit)) (now (holds .exit)) (now (counts .exit)) (now (register .exit)) (now (into .exit)))
         (now (list .exit)) (now (work .exit)) (now (out .exit)) (r .at) (r .from) ⌝ }
 {
     let done = obeying::obey(
@@ -70,6 +71,7 @@ fn act(
         holds,
         counts,
         register,
+        into,
         list,
         work,
         from,
@@ -183,16 +185,17 @@ pub fn feed(
     holds: &mut [u16],
     counts: &mut [u32],
     register: &mut [u16],
+    into: &mut [u16],
     list: &mut [u16],
     work: &mut [u32],
     mut from: usize,
     out: &mut [u8],
 ) -> Fed
-    requires { ⌜ Stands n (storeOf n (now states) (now links) (now leaders) (now holds) (now counts) (now register)) (now list) (now work) from
+    requires { ⌜ Stands n (storeOf n (now states) (now links) (now leaders) (now holds) (now counts) (now register) (now into)) (now list) (now work) from
         × Closed (now text) × (longest ≤ length (now out)) ⌝ }
-    ensures { λ r. ⌜ Feeding n (storeOf n (now (states .entry)) (now (links .entry)) (now (leaders .entry)) (now (holds .entry)) (now (counts .entry)) (now (register .entry)))
+    ensures { λ r. ⌜ Feeding n (storeOf n (now (states .entry)) (now (links .entry)) (now (leaders .entry)) (now (holds .entry)) (now (counts .entry)) (now (register .entry)) (now (into .entry)))
         (now (text .entry))
-        (storeOf n (now (states .exit)) (now (links .exit)) (now (leaders .exit)) (now (holds .exit)) (now (counts .exit)) (now (register .exit)))
+        (storeOf n (now (states .exit)) (now (links .exit)) (now (leaders .exit)) (now (holds .exit)) (now (counts .exit)) (now (register .exit)) (now (into .exit)))
         (now (list .exit)) (now (work .exit)) (now (out .exit)) (r .taken) (r .written) (r .from)
         × Stopped (now (text .entry)) (now (out .exit)) (r .taken) (r .written) ⌝ }
 {
@@ -218,6 +221,7 @@ pub fn feed(
                     holds,
                     counts,
                     register,
+                    into,
                     list,
                     work,
                     from,

@@ -1,105 +1,103 @@
--- The pass of a freeze: each draft that the search finished becomes frozen, and the places of every draft that name a fresh group from outside are added to its count.
-use mathlib.Core.Path.{_≡_, _∙_, sym, subst}
-use mathlib.Core.Logic.{inl, ⊎-elim}
+-- What stands in the queue of a freeze: what the counting asks, and what it leaves.
+use mathlib.Core.Path.{_≡_, _∙_}
+use mathlib.Core.Logic.{_⊎_, inl, inr, ⊎-elim}
+use mathlib.Core.Bool.{Bool}
 use mathlib.Core.List.{List}
-use Prim.Native.Nat.{ℕ, suc, _+_, _*_, _≤_, _<_}
+use Prim.Native.Nat.{ℕ, _+_, _*_, _≤_, _<_}
 use native.Mathlib.Omega.{arith}
-use lib.Dec.{eqb}
+use lib.Dec.{T, T-not, eqb, eqb→eq}
 use lib.ListN.{length}
 use Rattle.rules.specs.Lists.{_!_}
 use Rattle.rules.specs.Tests.{pick}
 use Rattle.rules.specs.Limits.{none}
-use Rattle.rules.specs.Below.{table}
-use Rattle.laws.specs.Numbers.{lt-or}
-use Rattle.laws.specs.Below.{pick-true, pick-false, length-table, getD-table}
-use Rattle.laws.specs.Words.{eqb-of, neqb-of}
-use Rattle.paths.specs.Search.{finishedMark}
-use Rattle.tallies.specs.Adding.{Labelled, still}
-use Rattle.tallies.specs.Places.{link-past, link-none, LinksAdded, links-none, links-more}
-use Rattle.recounting.specs.MadeFrozen.{MadeFrozen, made-none, made-past}
+use Rattle.rules.specs.Below.{any, table, sum}
+use Rattle.laws.specs.Below.{T-dec, some→, →some, pick-true, pick-false, length-table, getD-table}
+use Rattle.laws.specs.Words.{eqb-of}
+use Rattle.tallies.specs.Sums.{getD-any}
+use Rattle.tallies.specs.Tally.{label, placed}
+use Rattle.into.specs.Into.{Into}
 
--- the leaders of what the search finished, and none for all others
-unfoldable pub freshLeaders : ℕ → List ℕ → List ℕ
-freshLeaders n work = table (λ q. pick (eqb (work ! q) finishedMark) (work ! (2 * n + q)) none) n
+-- q stands in the queue: in one of the first `size` places of the seventh region
+pub record Stands (n : ℕ) (work : List ℕ) (size q : ℕ) : Type 0 where
+  pub at : ℕ
+  pub below : at < size
+  pub is : work ! (6 * n + at) ≡ q
 
-module _ (n : ℕ) (work : List ℕ) where
-  pub fresh-n : length (freshLeaders n work) ≡ n
+-- the same by computation
+unfoldable pub isStanding : ℕ → List ℕ → ℕ → ℕ → Bool
+isStanding n work size q = any (λ j. eqb (work ! (6 * n + j)) q) size
+
+-- the leaders found for what stands in the queue, and none for all others
+unfoldable pub freshLeaders : ℕ → List ℕ → ℕ → List ℕ
+freshLeaders n work size = table (λ q. pick (isStanding n work size q) (work ! (2 * n + q)) none) n
+
+module _ (n : ℕ) (work : List ℕ) (size : ℕ) where
+  stands-T : (q : ℕ) → Stands n work size q → T (isStanding n work size q)
+  unfolding isStanding
+  stands-T q s = →some (λ j. eqb (work ! (6 * n + j)) q) size (s .at) (s .below) (eqb-of {m = work ! (6 * n + s .at)} {n = q} (s .is))
+
+  T-stands : (q : ℕ) → T (isStanding n work size q) → Stands n work size q
+  unfolding isStanding
+  T-stands q t = let w = some→ (λ j. eqb (work ! (6 * n + j)) q) size t in record { at = w .0; below = w .1; is = eqb→eq (work ! (6 * n + w .0)) q (w .2) }
+
+  -- a piece stands there or not
+  pub stands-or : (q : ℕ) → Stands n work size q ⊎ (Stands n work size q → ⊥)
+  stands-or q = ⊎-elim (λ t. inl (T-stands q t)) (λ t. inr (λ s. T-not (isStanding n work size q) t (stands-T q s))) (T-dec (isStanding n work size q))
+
+  pub fresh-n : length (freshLeaders n work size) ≡ n
   unfolding freshLeaders
   fresh-n = length-table _ n
 
   entry : ℕ → ℕ
-  entry q = pick (eqb (work ! q) finishedMark) (work ! (2 * n + q)) none
+  entry q = pick (isStanding n work size q) (work ! (2 * n + q)) none
 
-  pub fresh-on : (q : ℕ) → q < n → work ! q ≡ finishedMark → freshLeaders n work ! q ≡ work ! (2 * n + q)
+  label-entry : (q : ℕ) → q < n → label (freshLeaders n work size) q ≡ freshLeaders n work size ! q
+  label-entry q h = getD-any (freshLeaders n work size) q none 0 (omega (arith, fresh-n))
+
+  pub fresh-on : (q : ℕ) → q < n → Stands n work size q → label (freshLeaders n work size) q ≡ work ! (2 * n + q)
   unfolding freshLeaders entry
-  fresh-on q h e = getD-table entry n q 0 h ∙ pick-true (eqb (work ! q) finishedMark) (work ! (2 * n + q)) none (eqb-of e)
+  fresh-on q h e = label-entry q h ∙ getD-table entry n q 0 h ∙ pick-true (isStanding n work size q) (work ! (2 * n + q)) none (stands-T q e)
 
-  pub fresh-off : (q : ℕ) → q < n → (work ! q ≡ finishedMark → ⊥) → freshLeaders n work ! q ≡ none
+  pub fresh-off : (q : ℕ) → q < n → (Stands n work size q → ⊥) → label (freshLeaders n work size) q ≡ none
   unfolding freshLeaders entry
-  fresh-off q h f =
-      getD-table entry n q 0 h ∙ pick-false (eqb (work ! q) finishedMark) (work ! (2 * n + q)) none (neqb-of {m = work ! q} {n = finishedMark} f)
+  fresh-off q h f = label-entry q h ∙ getD-table entry n q 0 h ∙ ⊎-elim
+      (λ t. absurd (f (T-stands q t)))
+      (λ t. pick-false (isStanding n work size q) (work ! (2 * n + q)) none t)
+      (T-dec (isStanding n work size q))
 
--- l is the fresh leader of q
-pub record FreshLeader (n : ℕ) (work : List ℕ) (q l : ℕ) : Type 0 where
-  pub is : l ≡ freshLeaders n work ! q
+-- pieces stand in the queue, each once
+pub record Queued (n : ℕ) (work : List ℕ) (size : ℕ) : Type 0 where
+  pub each : (j : ℕ) → j < size → work ! (6 * n + j) < n
+  pub apart : (i j : ℕ) → i < j → j < size → work ! (6 * n + i) ≡ work ! (6 * n + j) → ⊥
+  pub most : size ≤ n
 
-module _ {n : ℕ} {work : List ℕ} {q : ℕ} (h : q < n) where
-  pub leader-found : work ! q ≡ finishedMark → FreshLeader n work q (work ! (2 * n + q))
-  leader-found e = record { is = sym (fresh-on n work q h e) }
-
-  pub leader-none : (work ! q ≡ finishedMark → ⊥) → FreshLeader n work q none
-  leader-none f = record { is = sym (fresh-off n work q h f) }
-
--- the areas in their lengths, with leaders that fit; what is finished is a draft, and only drafts name it; counts have room
-pub record Taking (n : ℕ) (states links leaders counts work : List ℕ) : Type 0 where
+-- the areas in their lengths, with leaders that fit; what stands in the queue is a draft, and its leaders are no others'; counts have room
+pub record Taking (n : ℕ) (states links leaders counts into work : List ℕ) (size : ℕ) : Type 0 where
   pub small : n ≤ 1024
   pub states-n : length states ≡ n
   pub links-n : length links ≡ 4 * n
   pub leaders-n : length leaders ≡ n
   pub counts-n : length counts ≡ n
-  pub work-n : 3 * n ≤ length work
-  pub fit : (q : ℕ) → q < n → work ! q ≡ finishedMark → work ! (2 * n + q) < n
-  pub draft : (q : ℕ) → q < n → work ! q ≡ finishedMark → states ! q ≡ 1
-  pub named : (q k : ℕ) → q < n → (states ! q ≡ 1 → ⊥) → k < 4 → links ! (4 * q + k) < n → work ! (links ! (4 * q + k)) ≡ finishedMark → ⊥
+  pub work-n : 7 * n ≤ length work
+  pub fit : (q : ℕ) → q < n → Stands n work size q → work ! (2 * n + q) < n
+  pub draft : (q : ℕ) → q < n → Stands n work size q → states ! q ≡ 1
+  pub apart : (t q : ℕ) → t < n → q < n → (Stands n work size t → ⊥) → Stands n work size q → leaders ! t ≡ work ! (2 * n + q) → ⊥
   pub most : (l : ℕ) → l < n → counts ! l ≤ 67107840
+  pub queued : Queued n work size
+  pub named : Into n states links into
 
--- the pieces below k are passed
-pub record Taken (n : ℕ) (states links leaders counts work : List ℕ) (k : ℕ) (states′ leaders′ counts′ : List ℕ) : Type 0 where
-  pub made : MadeFrozen n states leaders work k states′ leaders′
-  pub counted : LinksAdded n links (freshLeaders n work) counts (4 * k) counts′
+-- what stands in the queue is frozen, with its leaders; all else is as it was
+pub record MadeFrozen (n : ℕ) (states leaders work : List ℕ) (size : ℕ) (states′ leaders′ : List ℕ) : Type 0 where
+  pub states-n : length states′ ≡ length states
+  pub leaders-n : length leaders′ ≡ length leaders
+  pub on : (p : ℕ) → p < n → Stands n work size p → (states′ ! p ≡ 2) × (leaders′ ! p ≡ work ! (2 * n + p))
+  pub off : (p : ℕ) → (Stands n work size p → ⊥) → (states′ ! p ≡ states ! p) × (leaders′ ! p ≡ leaders ! p)
 
-pub taken-none : {n : ℕ} {states links leaders counts work : List ℕ} → Taken n states links leaders counts work 0 states leaders counts
-taken-none = record { made = made-none; counted = links-none }
-
-module _ {n : ℕ} {states links leaders counts work : List ℕ} (t : Taking n states links leaders counts work) where
-  pub labelled-of : Labelled n (freshLeaders n work) counts
-  labelled-of = record { small = t .small; leaders-n = fresh-n n work; counts-n = omega (arith, t .counts-n) }
-
-  -- a place that names nothing fresh
-  place-off : {i : ℕ} {counts′ : List ℕ} → i < 4 * n → LinksAdded n links (freshLeaders n work) counts i counts′ → (links ! i < n → work ! (links ! i) ≡ finishedMark → ⊥)
-      → LinksAdded n links (freshLeaders n work) counts (i + 1) counts′
-  place-off {i} h a f =
-      let z = still labelled-of (a .added) in
-      ⊎-elim
-      (λ l. links-more labelled-of a h (link-none z l (omega (arith, fresh-off n work (links ! i) l (f l), t .small))))
-      (λ l. links-more labelled-of a h (link-past z l))
-      (lt-or (links ! i) n)
-
-  -- the next piece is no draft
-  pub taken-other : {k : ℕ} {states′ leaders′ counts′ : List ℕ} → k < n → Taken n states links leaders counts work k states′ leaders′ counts′ → (states′ ! k ≡ 1 → ⊥)
-      → Taken n states links leaders counts work (k + 1) states′ leaders′ counts′
-  taken-other {k} {counts′ = counts′} h a d = record {
-    made = made-past (a .made) (λ e. was (t .draft k h e));
-    counted =
-        subst (λ (i : ℕ). LinksAdded n links (freshLeaders n work) counts i counts′) (omega arith)
-        (off 3 (omega arith) (off 2 (omega arith) (off 1 (omega arith) (off 0 (omega arith)
-        (subst (λ (i : ℕ). LinksAdded n links (freshLeaders n work) counts i counts′) (omega arith) (a .counted))))));
-  }
-    where
-      was : states ! k ≡ 1 → ⊥
-      was e = d (a .made .off k (inl (omega arith)) .0 ∙ e)
-
-      off : (j : ℕ) → j < 4 → LinksAdded n links (freshLeaders n work) counts (4 * k + j) counts′ → LinksAdded n links (freshLeaders n work) counts (4 * k + suc j) counts′
-      off j l x =
-          let e : 4 * k + j + 1 ≡ 4 * k + suc j = omega arith in
-          subst (λ (i : ℕ). LinksAdded n links (freshLeaders n work) counts i counts′) e (place-off (omega arith) x (λ u e. t .named k j h was l u e))
+-- and no link into a draft is left of it; each fresh group has a count more for each place that names it from outside
+pub record Taken (n : ℕ) (states links leaders counts into work : List ℕ) (size : ℕ) (states′ leaders′ counts′ into′ : List ℕ) : Type 0 where
+  pub made : MadeFrozen n states leaders work size states′ leaders′
+  pub counts-n : length counts′ ≡ length counts
+  pub counted : (L : ℕ) → L < n → counts′ ! L ≡ counts ! L + sum (placed links (freshLeaders n work size) L) (4 * n)
+  pub into-n : length into′ ≡ length into
+  pub emptied : (q : ℕ) → q < n → Stands n work size q → into′ ! q ≡ 0
+  pub kept : (q : ℕ) → (Stands n work size q → ⊥) → into′ ! q ≡ into ! q

@@ -1,3 +1,5 @@
-pub mod MadeFrozen
+pub mod Merged
 pub mod Fresh
-pub mod Passing
+pub mod Summing
+pub mod Inner
+pub mod Turning

@@ -1,36 +1,50 @@
-// The pass of a freeze: what the search finished becomes frozen, and the places that name it are counted.
-ghost use Prim.Native.Nat.{_+_, _*_, _≤_, _<_};
-ghost use lib.ListN.{length};
-ghost use Rattle.recounting.specs.Fresh.{FreshLeader, Taking, Taken};
-ghost use Rattle.recounting.specs.Passing.{Adding, PlacesAdded, Under, Passed};
+// What stands in the queue of a freeze becomes frozen, and its groups are counted: the links into its drafts, added up, less the places within each group.
+ghost use Rattle.recounting.specs.Fresh.{Taking, Taken};
+ghost use Rattle.recounting.specs.Summing.{Handing, Summed};
+ghost use Rattle.recounting.specs.Inner.{Uncounting, Uncounted};
+ghost use Rattle.recounting.specs.Turning.{Turnable, Turned};
 use rules::Store;
 
-// The leader of q, if the search finished it, else none.
-fn leader_of(n: usize, work: &[u32], q: usize) -> usize
-    requires { ⌜ (n ≤ 1024) × (3 * n ≤ length (now work)) × (q < n) ⌝ }
-    ensures { λ r. ⌜ FreshLeader n (now (work .entry)) q r ⌝ }
+// Each piece of the queue gets its leader, and the links into it go to its group's count.
+fn hand_over(
+    n: usize,
+    leaders: &mut [u16],
+    counts: &mut [u32],
+    into: &mut [u16],
+    work: &[u32],
+    size: usize,
+)
+    requires { ⌜ Handing n (now leaders) (now counts) (now into) (now work) size ⌝ }
+    ensures { λ _. ⌜ Summed n (now (leaders .entry)) (now (counts .entry)) (now (into .entry)) (now (work .entry)) size size
+        (now (leaders .exit)) (now (counts .exit)) (now (into .exit)) ⌝ }
 {
-    if work[q] == paths::FINISHED_MARK {
-        return work[2 * n + q] as usize;
+    let mut j: usize = 0;
+    while j < size {
+        let q = work[6 * n + j] as usize;
+        let l = work[2 * n + q];
+        j += 1;
+        leaders[q] = l as u16;
+        let at = l as usize;
+        counts[at] = counts[at] + into[q] as u32;
+        into[q] = 0;
     }
-    Store::NONE as usize
 }
 
-// Adds one to the count of a fresh group for each place of q that names it from outside.
-fn add_places(n: usize, links: &[u16], counts: &mut [u32], work: &[u32], q: usize)
-    requires { ⌜ Adding n (now links) (now counts) (now work) q ⌝ }
-    ensures { λ _. ⌜ PlacesAdded n (now (links .entry)) (now (counts .entry)) (now (work .entry)) (4 * q) (now (counts .exit)) (4 * q + 4) ⌝ }
+// Takes the places by which q names another piece of its group off the group's count.
+fn uncount(n: usize, links: &[u16], leaders: &[u16], counts: &mut [u32], q: usize)
+    requires { ⌜ Uncounting n (now links) (now leaders) (now counts) q ⌝ }
+    ensures { λ _. ⌜ Uncounted n (now (links .entry)) (now (leaders .entry)) (now (counts .entry)) q 4 (now (counts .exit)) ⌝ }
 {
-    let own = leader_of(n, work, q);
+    let own = leaders[q] as usize;
     let end = Store::LINKS * q + Store::LINKS;
     let mut i = Store::LINKS * q;
     while i < end {
         let t = links[i] as usize;
         if t < n {
-            let l = leader_of(n, work, t);
-            if l < n {
-                if l != own {
-                    counts[l] = counts[l] + 1;
+            if t != q {
+                let l = leaders[t] as usize;
+                if l == own {
+                    counts[own] = counts[own] - 1;
                 }
             }
         }
@@ -38,72 +52,43 @@ fn add_places(n: usize, links: &[u16], counts: &mut [u32], work: &[u32], q: usiz
     }
 }
 
-// Draft q is passed: its places are added, and it becomes frozen, with its leader, if the search finished it.
-fn take_in(
+// Each piece of the queue is frozen, and the places within its group are taken off.
+fn turn(
     n: usize,
     states: &mut [u8],
     links: &[u16],
-    leaders: &mut [u16],
+    leaders: &[u16],
     counts: &mut [u32],
     work: &[u32],
-    q: usize,
+    size: usize,
 )
-    requires { ⌜ Under n (now states) (now links) (now leaders) (now counts) (now work) q × (q < n) ⌝ }
-    ensures { λ _. ⌜ Passed n (now (states .entry)) (now (links .entry)) (now (leaders .entry)) (now (counts .entry)) (now (work .entry)) q
-        (now (states .exit)) (now (leaders .exit)) (now (counts .exit)) (q + 1) ⌝ }
+    requires { ⌜ Turnable n (now states) (now links) (now leaders) (now counts) (now work) size ⌝ }
+    ensures { λ _. ⌜ Turned n (now (states .entry)) (now (links .entry)) (now (counts .entry)) (now (work .entry)) size size (now (states .exit)) (now (counts .exit)) ⌝ }
 {
-    add_places(n, links, counts, work, q);
-    if work[q] == paths::FINISHED_MARK {
+    let mut j: usize = 0;
+    while j < size {
+        let q = work[6 * n + j] as usize;
+        j += 1;
+        uncount(n, links, leaders, counts, q);
         states[q] = Store::FROZEN;
-        leaders[q] = work[2 * n + q] as u16;
     }
 }
 
-// Passes the pieces from `from` to `to`.
-fn take_part(
-    n: usize,
-    states: &mut [u8],
-    links: &[u16],
-    leaders: &mut [u16],
-    counts: &mut [u32],
-    work: &[u32],
-    from: usize,
-    to: usize,
-)
-    requires { ⌜ Under n (now states) (now links) (now leaders) (now counts) (now work) from × (from ≤ to) × (to ≤ n) ⌝ }
-    ensures { λ _. ⌜ Passed n (now (states .entry)) (now (links .entry)) (now (leaders .entry)) (now (counts .entry)) (now (work .entry)) from
-        (now (states .exit)) (now (leaders .exit)) (now (counts .exit)) to ⌝ }
-{
-    let mut q = from;
-    while q < to {
-        let k = q;
-        q += 1;
-        if states[k] == Store::DRAFT {
-            take_in(n, states, links, leaders, counts, work, k);
-        }
-    }
-}
-
-// Freezes what the search finished, and counts the places that name it, in one pass over the drafts.
+// Freezes what stands in the queue of this size, whose leaders are found, and counts its groups.
 pub fn take_all(
     n: usize,
     states: &mut [u8],
     links: &[u16],
     leaders: &mut [u16],
     counts: &mut [u32],
+    into: &mut [u16],
     work: &[u32],
+    size: usize,
 )
-    requires { ⌜ Taking n (now states) (now links) (now leaders) (now counts) (now work) ⌝ }
-    ensures { λ _. ⌜ Taken n (now (states .entry)) (now (links .entry)) (now (leaders .entry)) (now (counts .entry)) (now (work .entry)) n
-        (now (states .exit)) (now (leaders .exit)) (now (counts .exit)) ⌝ }
+    requires { ⌜ Taking n (now states) (now links) (now leaders) (now counts) (now into) (now work) size ⌝ }
+    ensures { λ _. ⌜ Taken n (now (states .entry)) (now (links .entry)) (now (leaders .entry)) (now (counts .entry)) (now (into .entry)) (now (work .entry)) size
+        (now (states .exit)) (now (leaders .exit)) (now (counts .exit)) (now (into .exit)) ⌝ }
 {
-    let mut q: usize = 0;
-    while 64 <= n - q {
-        let k = q;
-        q += 64;
-        if areas::shows(states, 1, k) {
-            take_part(n, states, links, leaders, counts, work, k, q);
-        }
-    }
-    take_part(n, states, links, leaders, counts, work, q, n);
+    hand_over(n, leaders, counts, into, work, size);
+    turn(n, states, links, leaders, counts, work, size);
 }

@@ -17,6 +17,7 @@ use Rattle.rules.specs.Register.{isRight, heldIn}
 use Rattle.laws.specs.Tests.{same-test}
 use Rattle.laws.specs.Below.{every→, →every}
 use Rattle.laws.specs.Numbers.{eq-or}
+use Rattle.areas.specs.Filled.{front-zeros}
 
 -- ---- one piece
 
@@ -75,18 +76,6 @@ every-same : (f g : ℕ → Bool) (k : ℕ) → ((p : ℕ) → p < k → f p ≡
 unfolding every
 every-same f g zero e = refl
 every-same f g (suc k) e = ap₂ (λ (a b : Bool). a & b) (every-same f g k (λ p h. e p (omega arith))) (e k (le-refl (suc k)))
-
--- zeros written over zeros
-front-zeros : (k : ℕ) (w : List ℕ) → k ≤ length w → ((i : ℕ) → i < k → w ! i ≡ 0) → replicate k 0 ++ drop k w ≡ w
-front-zeros k w h z = ap (λ (t : List ℕ). t ++ drop k w) (sym front) ∙ take-append-drop k w
-  where
-    size : length (take k w) ≡ k
-    size = length-take-le k w h
-
-    front : take k w ≡ replicate k 0
-    front = ext-getD 0 (take k w) (replicate k 0) (size ∙ sym (length-replicate k 0)) (λ i l.
-        let m : i < k = omega (arith, size) in
-        getD-take k w i 0 m ∙ z i m ∙ sym (getD-replicate k i 0 0 m))
 
 -- what was added up is taken back
 taken-back : (n : ℕ) (w₀ w₁ : List ℕ) {w : List ℕ} → n ≤ length w₀ → ((p : ℕ) → p < n → w₀ ! p ≡ 0) → drop n w₁ ≡ drop n w₀ → w ≡ replicate n 0 ++ drop n

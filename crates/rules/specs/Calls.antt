@@ -178,9 +178,9 @@ isSized t =
     leb 1 n & leb n most & eqb (length (t .base .states)) n & eqb (length (t .base .links)) (4 * n) & eqb (length (t .leaders)) n
     & eqb (length (t .base .holds)) n & eqb (length (t .counts)) n
 
--- and the register too
+-- and the register and the links into each draft too
 unfoldable pub isSizedStore : Store → Bool
-isSizedStore s = isSized (s .tables) & eqb (length (s .register)) entries
+isSizedStore s = isSized (s .tables) & eqb (length (s .register)) entries & eqb (length (s .into)) (s .tables .base .n)
 
 -- 1 SIZE does not apply: list has at least N entries and work at least 8N, of the areas the call takes
 unfoldable pub isLent : Areas → Call → Bool

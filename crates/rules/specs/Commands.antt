@@ -8,7 +8,7 @@ use Rattle.rules.specs.Tests.{_or_, _&_, pick}
 use Rattle.rules.specs.Limits.{mostHolds, none, seats}
 use Rattle.rules.specs.Below.{every, any, table, lowest, list}
 use Rattle.rules.specs.Register.{heldBy, isFull, oneMoreBy, oneLessBy}
-use Rattle.rules.specs.Tables.{Base, Tables, Store, baseOf, storeOn, state, isFree, isDraft, isFrozen, linkAt, holdsOf, reaches, isKept, finish}
+use Rattle.rules.specs.Tables.{Base, Tables, Store, baseOf, storeBy, state, isFree, isDraft, isFrozen, linkAt, holdsOf, reaches, isKept, finish}
 use Rattle.rules.specs.declared.Refusal.{Refusal}
 use Rattle.rules.specs.declared.Refusal.the-variants.{Seat, Number, Place, Target, Free, FreeTarget, State, Limit, Register, NotHeld, NotYours, Linked, Full}
 use Rattle.rules.specs.declared.Command.{Command}
@@ -266,7 +266,7 @@ noted l (Look p) = l
 
 -- the store after an accepted command
 unfoldable pub nextStore : Store → Command → Store
-nextStore s c = storeOn (nextTables (s .tables) (meant s c)) (noted (s .register) (meant s c))
+nextStore s c = storeBy (nextTables (s .tables) (meant s c)) (noted (s .register) (meant s c))
 
 -- the store after a command: a refused one leaves it unchanged
 unfoldable pub settled : Verdict → Store → Command → Store

@@ -41,8 +41,8 @@ module _ (at : ℕ → ℕ → ℕ) where
   close (suc k) m = close k (widen m)
 
 -- the marks of the pieces below n that reach t
-unfoldable pub into : ℕ → (ℕ → ℕ → ℕ) → ℕ → List Bool
-into n at t = close at n (set (replicate n false) t true)
+unfoldable pub reaching : ℕ → (ℕ → ℕ → ℕ) → ℕ → List Bool
+reaching n at t = close at n (set (replicate n false) t true)
 
 unfoldable pub reachb : ℕ → (ℕ → ℕ → ℕ) → ℕ → ℕ → Bool
-reachb n at p t = getD (into n at t) p false
+reachb n at p t = getD (reaching n at t) p false

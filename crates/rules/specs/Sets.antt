@@ -18,10 +18,11 @@ use Rattle.rules.specs.declared.Command.the-variants.{New, Set, Freeze, 
 use Rattle.rules.specs.declared.Seen.{Seen}
 use Rattle.rules.specs.declared.Seen.the-variants.{Piece, Unseen}
 
--- a line of a set: a command and what it answers, a look and what it sees
+-- a line of a set: a command and what it answers, a look and what it sees, the links into each draft
 pub data Entry : Type 0 where
   does : Command → ℕ → ℕ → List ℕ → Entry
   sees : ℕ → ℕ → ℕ → ℕ → ℕ → Entry
+  named : List ℕ → Entry
 
 unfoldable pub sameList : List ℕ → List ℕ → Bool
 sameList [] [] = true
@@ -41,6 +42,7 @@ shows (Unseen r) y m d i = false
 unfoldable pub right : Store → List Entry → Bool
 right s [] = isSound (s .tables)
 right s (does c r v f ∷ es) = let rest = right (stepTo s c) es in answers s c (verdict s c) r v f & rest
+right s (named l ∷ es) = let rest = right s es in sameList (s .into) l & rest
 right s (sees p x l c h ∷ es) = let rest = right s es in shows (seenAt (s .tables) p) x l c h & rest
 
 pub record Row : Type 0 where
@@ -54,7 +56,7 @@ row n es = record { store = empty n; entries = es }
 -- lines on a store of capacity 1 whose piece is frozen and has k holds, all of seat 0
 abbrev held : ℕ → List Entry → Row
 held k es = record {
-  store = storeOf 1 (2 ∷ []) (none ∷ none ∷ none ∷ none ∷ []) (0 ∷ []) (k ∷ []) (k ∷ []) (0 ∷ 0 ∷ k ∷ replicate 3069 0);
+  store = storeOf 1 (2 ∷ []) (none ∷ none ∷ none ∷ none ∷ []) (0 ∷ []) (k ∷ []) (k ∷ []) (0 ∷ 0 ∷ k ∷ replicate 3069 0) (0 ∷ []);
   entries = es;
 }
 
@@ -121,6 +123,11 @@ sets =
     ∷ no (Set 1 0 none) State ∷ no (Set 0 0 3) FreeTarget ∷ ok (Set 0 0 none) ∷ [])
     -- Handing in twice: seat 3's second freeze changes nothing, seat 5's adds its own; one release each lets the piece go.
     ∷ row 4 (gives 0 ∷ ok (Freeze 0 3) ∷ ok (Freeze 0 3) ∷ sees 0 2 0 1 1 ∷ ok (Freeze 0 5) ∷ sees 0 2 0 2 2 ∷ ok (Release 0 3) ∷ frees (Release 0 5) (0 ∷ []) ∷ [])
+    -- Links into a draft: 0 names 1 twice, 1 names itself and 0, 2 names 1; set to none a link counts no more, and a frozen piece has none.
+    ∷ row 4 (gives 0 ∷ gives 1 ∷ gives 2 ∷ ok (Set 0 0 1) ∷ ok (Set 0 1 1) ∷ ok (Set 1 0 1) ∷ ok (Set 1 1 0)
+    ∷ ok (Set 2 0 1) ∷ named (1 ∷ 3 ∷ 0 ∷ 0 ∷ []) ∷ no (Bin 1) Linked
+    ∷ ok (Set 0 1 none) ∷ ok (Bin 2) ∷ named (1 ∷ 1 ∷ 0 ∷ 0 ∷ []) ∷ gives 2 ∷ ok (Set 2 3 2)
+    ∷ ok (Freeze 0 0) ∷ named (0 ∷ 0 ∷ 0 ∷ 0 ∷ []) ∷ sees 0 2 0 1 1 ∷ ok (Bin 2) ∷ [])
     ∷ []
 
 -- all that the sets compute with besides the rules

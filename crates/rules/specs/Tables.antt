@@ -1,4 +1,4 @@
--- The rulebook's tables: what the tables and the register hold, and what a sound store is.
+-- The rulebook's tables: what the areas of the store hold, and what a sound store is.
 use mathlib.Core.Bool.{Bool, not}
 use mathlib.Core.List.{List}
 use Prim.Native.Nat.{ℕ, _+_, _*_}
@@ -23,10 +23,11 @@ pub record Tables : Type 0 where
   pub leaders : List ℕ
   pub counts : List ℕ
 
--- the store: its tables, and the register of who holds what
+-- the store: its tables, the register of who holds what, and the links into each draft
 pub record Store : Type 0 where
   pub tables : Tables
   pub register : List ℕ
+  pub into : List ℕ
 
 -- what commands tell the store, at capacity n
 abbrev pub baseOf : ℕ → List ℕ → List ℕ → List ℕ → Base
@@ -40,13 +41,13 @@ tablesOn base leaders counts = record { base = base; leaders = leaders; counts =
 abbrev pub tablesOf : ℕ → List ℕ → List ℕ → List ℕ → List ℕ → List ℕ → Tables
 tablesOf n states links leaders holds counts = tablesOn (baseOf n states links holds) leaders counts
 
--- the tables with a register beside them
-abbrev pub storeOn : Tables → List ℕ → Store
-storeOn tables register = record { tables = tables; register = register }
+-- the tables with a register and the links into each draft beside them
+abbrev pub storeOn : Tables → List ℕ → List ℕ → Store
+storeOn tables register into = record { tables = tables; register = register; into = into }
 
 -- the store's areas in the rulebook's order
-abbrev pub storeOf : ℕ → List ℕ → List ℕ → List ℕ → List ℕ → List ℕ → List ℕ → Store
-storeOf n states links leaders holds counts register = storeOn (tablesOf n states links leaders holds counts) register
+abbrev pub storeOf : ℕ → List ℕ → List ℕ → List ℕ → List ℕ → List ℕ → List ℕ → List ℕ → Store
+storeOf n states links leaders holds counts register into = storeOn (tablesOf n states links leaders holds counts) register into
 
 module _ (b : Base) where
   unfoldable pub state : ℕ → ℕ
@@ -107,9 +108,21 @@ module _ (b : Base) where
   unfoldable pub countEntry : ℕ → ℕ
   countEntry p = pick (isFrozen p & eqb (leaderOf p) p) (countOf p) 0
 
+  -- the link places of r that name p
+  unfoldable pub namings : ℕ → ℕ → ℕ
+  namings p r = sum (λ k. onlyIf (eqb (linkAt r k) p) 1) 4
+
+  -- into: for a draft the link places of other pieces that name it; else 0
+  unfoldable pub intoEntry : ℕ → ℕ
+  intoEntry p = onlyIf (isDraft p) (sum (λ r. onlyIf (not (eqb r p)) (namings p r)) (b .n))
+
   -- the tables with these states, links and holds
   unfoldable pub finish : Tables
   finish = tablesOn b (table leaderEntry (b .n)) (table countEntry (b .n))
+
+  -- and the links into each draft
+  unfoldable pub intoOf : List ℕ
+  intoOf = table intoEntry (b .n)
 
   -- f at each of the four links of p
   unfoldable pub allFour : ℕ → (ℕ → Bool) → Bool
@@ -143,18 +156,26 @@ module _ (t : Tables) where
   unfoldable pub isSound : Bool
   isSound = every soundAt (bs .n)
 
+-- the store with these tables and this register: the links into each draft follow
+abbrev pub storeBy : Tables → List ℕ → Store
+storeBy tables register = storeOn tables register (intoOf (tables .base))
+
 -- the holds of every piece are the sum over the register
 unfoldable pub sumsRight : Base → List ℕ → Bool
 sumsRight b l = every (λ p. eqb (holdsOf b p) (heldIn l p)) (b .n)
 
--- Sound, of the store: its tables are, its register is right, and holds are the sum over it
+-- the links into every draft are as they follow
+unfoldable pub intoRight : Base → List ℕ → Bool
+intoRight b l = every (λ p. eqb (getD l p 0) (intoEntry b p)) (b .n)
+
+-- Sound, of the store: its tables are, its register is right, holds are the sum over it, and the links into each draft are right
 unfoldable pub isSoundStore : Store → Bool
-isSoundStore s = let b = s .tables .base in isSound (s .tables) & isRight (b .n) (s .register) & sumsRight b (s .register)
+isSoundStore s = let b = s .tables .base in isSound (s .tables) & isRight (b .n) (s .register) & sumsRight b (s .register) & intoRight b (s .into)
 
 -- In empty tables all links are 65,535, all leaders too, and everything else is 0
 unfoldable pub emptyTables : ℕ → Tables
 emptyTables n = tablesOf n (replicate n 0) (replicate (4 * n) none) (replicate n none) (replicate n 0) (replicate n 0)
 
--- and in an empty store every line of the register is unused
+-- and in an empty store every line of the register is unused, and nothing is named
 unfoldable pub empty : ℕ → Store
-empty n = storeOn (emptyTables n) (replicate entries 0)
+empty n = storeOn (emptyTables n) (replicate entries 0) (replicate n 0)

@@ -6,7 +6,7 @@ use lib.ListN.{length, getD}
 use Rattle.rules.specs.Limits.{most, mostHolds, none, entries}
 use Rattle.rules.specs.Register.{Right, heldIn}
 use Rattle.rules.specs.Reach.{Reach}
-use Rattle.rules.specs.Tables.{Base, Tables, Store, state, linkAt, holdsOf, countOf}
+use Rattle.rules.specs.Tables.{Base, Tables, Store, state, linkAt, holdsOf, countOf, intoEntry}
 
 module _ (b : Base) where
   pub record Draft (p : ℕ) : Type 0 where
@@ -89,11 +89,12 @@ module _ (t : Tables) where
   abbrev pub Sound : Type 0
   Sound = (p : ℕ) → p < t .base .n → Piece p
 
--- Sound, of the store: its tables are, its register is right, and holds are the sum over it
+-- Sound, of the store: its tables are, its register is right, holds are the sum over it, and the links into each draft are right
 pub record SoundStore (s : Store) : Type 0 where
   pub tables : Sound (s .tables)
   pub register : Right (s .tables .base .n) (s .register)
   pub sums : (p : ℕ) → p < s .tables .base .n → holdsOf (s .tables .base) p ≡ heldIn (s .register) p
+  pub into : (p : ℕ) → p < s .tables .base .n → getD (s .into) p 0 ≡ intoEntry (s .tables .base) p
 
 -- each area of the store has exactly its length
 pub record SizedBase (b : Base) : Type 0 where
@@ -110,3 +111,4 @@ pub record Sized (t : Tables) : Type 0 where
 pub record SizedStore (s : Store) : Type 0 where
   pub tables : Sized (s .tables)
   pub register : length (s .register) ≡ entries
+  pub into : length (s .into) ≡ s .tables .base .n

@@ -1,10 +1,11 @@
-// Set on sound tables: draft P's link K becomes T.
+// Set on sound tables: draft P's link K becomes T, and the links into each draft follow.
 ghost use Prim.Native.Nat.{_≤_};
 ghost use lib.ListN.{length};
 ghost use Rattle.rules.specs.Tables.{tablesOf};
 ghost use Rattle.rules.specs.Calls.{answered, Ready};
 ghost use Rattle.rules.specs.declared.Command.the-variants.{Set};
 ghost use Rattle.laws.specs.ByTables.{DidTables, tablesEffect};
+ghost use Rattle.into.specs.Into.{Into};
 ghost use Rattle.editing.specs.Verdicts.{Worked};
 ghost use Rattle.editing.specs.Set.{Setting};
 use naming::Name;
@@ -43,15 +44,17 @@ pub fn set_link(
     leaders: &mut [u16],
     holds: &[u16],
     counts: &mut [u32],
+    into: &mut [u16],
     list: &mut [u16],
     p: u16,
     k: u16,
     t: u16,
 ) -> Answer
-    requires { ⌜ Ready (tablesOf n (now states) (now links) (now leaders) (now holds) (now counts)) × (n ≤ length (now list)) ⌝ }
+    requires { ⌜ Ready (tablesOf n (now states) (now links) (now leaders) (now holds) (now counts)) × Into n (now states) (now links) (now into) × (n ≤ length (now list)) ⌝ }
     ensures { λ r. ⌜ DidTables (Set p k t)
         (tablesOf n (now (states .entry)) (now (links .entry)) (now (leaders .entry)) (now (holds .entry)) (now (counts .entry))) (now (list .entry))
-        (tablesEffect (answered r) (tablesOf n (now (states .exit)) (now (links .exit)) (now (leaders .exit)) (now (holds .entry)) (now (counts .exit))) (now (list .exit))) ⌝ }
+        (tablesEffect (answered r) (tablesOf n (now (states .exit)) (now (links .exit)) (now (leaders .exit)) (now (holds .entry)) (now (counts .exit))) (now (list .exit)))
+        × Into n (now (states .exit)) (now (links .exit)) (now (into .exit)) ⌝ }
 {
     match naming::link(n, states, p, k, t) {
         Name::Wrong(refusal) => return Answer::Refused(refusal),
@@ -62,6 +65,8 @@ pub fn set_link(
         return Answer::Refused(Refusal::State);
     }
     let place = k as usize;
+    let was = links[Store::LINKS * at + place] as usize;
+    into::follow(n, states, into, at, was, t);
     let freed = set_place(n, states, links, leaders, holds, counts, list, at, place, t) as u16;
     Answer::Done {
         value: Store::NONE,

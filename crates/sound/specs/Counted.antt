@@ -1,7 +1,6 @@
--- The counts of all labels stand in the seventh region. Where leaders are right, counts are right and no group has count 0 exactly if they are these and no leader's is 0.
+-- The counts of all labels stand in the seventh region.
 use mathlib.Core.Path.{_≡_, sym, _∙_, ap, subst}
 use mathlib.Core.Bool.{Bool, true}
-use mathlib.Core.Logic.{⊎-elim}
 use mathlib.Core.List.{List, _++_, append-nil}
 use Prim.Native.Nat.{ℕ, _+_, _-_, _*_, _≤_, _<_}
 use native.Mathlib.Omega.{arith}
@@ -9,19 +8,12 @@ use lib.ListN.{length, take, drop, length-append, length-drop, List·getD-append
 use lib.Seq.{getD-append-add, getD-take, getD-drop, length-take-le, take-all, drop-length, drop-drop, drop-at}
 use borrow.Rule.Slice.PartMut.{midOf, putMid, post-is}
 use Rattle.rules.specs.Lists.{_!_}
-use Rattle.rules.specs.Tables.{Base, state, leaderOf, countEntry}
-use Rattle.rules.specs.Words.{Frozen, Kept, Well}
-use Rattle.laws.specs.Numbers.{eq-or}
-use Rattle.laws.specs.Sound.{leaderEntry-frozen, countEntry-leads}
-use Rattle.laws.specs.Kept.{kept↔counts}
 use Rattle.tallies.specs.Tally.{tally}
-use Rattle.tallies.specs.Exact.{tally-entry}
 use Rattle.tallies.specs.Adding.{Tallied, LaterSame}
-use Rattle.tallies.specs.Stores.{live-on, exact-right}
-use Rattle.sound.specs.Truthful.{Truthful, tells-same, Below}
+use Rattle.sound.specs.Truthful.{Truthful, Below}
 use Rattle.sound.specs.Wells.{Linked}
+use Rattle.sound.specs.Labels.{labels, labels-n}
 use Rattle.sound.specs.Tested.{TablesGiven, AllTested}
-use Rattle.sound.specs.Leaders.{LeadersRight, entry-other}
 
 -- what the count of all labels into the seventh region is given
 pub record CountGiven (n : ℕ) (states links leaders holds work : List ℕ) : Type 0 where
@@ -36,7 +28,7 @@ pub record CountGiven (n : ℕ) (states links leaders holds work : List ℕ) : T
 
 -- the seventh region has the counts of all labels
 pub record CountedUp (n : ℕ) (links holds leaders work : List ℕ) : Type 0 where
-  pub counts : (l : ℕ) → l < n → work ! (6 * n + l) ≡ tally n links holds leaders l
+  pub counts : (l : ℕ) → l < n → work ! (6 * n + l) ≡ tally n links holds (labels n leaders) l
 
 -- only the seventh and the eighth region change
 pub record OutsideKept (n : ℕ) (w w′ : List ℕ) : Type 0 where
@@ -73,14 +65,15 @@ module _ {n : ℕ} {states links leaders holds w : List ℕ} (g : CountGiven n s
         links-n = g .links-n;
         holds-n = g .holds-n;
         states-most = g .states-most;
-        labelled = record { small = g .most; leaders-n = g .leaders-n; counts-n = omega (arith, ap length e ∙ length-drop (6 * n) w, g .work-n) };
+        leaders-n = g .leaders-n;
+        labelled = record { small = g .most; leaders-n = labels-n n leaders; counts-n = omega (arith, ap length e ∙ length-drop (6 * n) w, g .work-n) };
         zeros = λ l h. ap (λ (x : List ℕ). x ! l) e ∙ getD-drop (6 * n) w l 0 ∙ g .zeros l h;
       }
 
   head : length (take (6 * n) w) ≡ 6 * n
   head = length-take-le (6 * n) w (omega (arith, g .work-n))
 
-  part-counted : (part : List ℕ) → Tallied n links holds leaders (midOf (6 * n) (length w - 6 * n) w) part → CountedUp n links holds leaders (take (6 * n) w ++ part)
+  part-counted : (part : List ℕ) → Tallied n links holds (labels n leaders) (midOf (6 * n) (length w - 6 * n) w) part → CountedUp n links holds leaders (take (6 * n) w ++ part)
   part-counted part t = record {
     counts = λ l h.
         ap (λ (i : ℕ). (take (6 * n) w ++ part) ! (i + l)) (sym head) ∙ getD-append-add (take (6 * n) w) part l 0 ∙ t .matches l h;
@@ -105,43 +98,3 @@ module _ {n : ℕ} {states links leaders holds w : List ℕ} (g : CountGiven n s
   part-tested {part} {r} x =
       subst (λ (l : List ℕ). UpTested n states links leaders holds w l r) (sym (whole (6 * n) w part (omega (arith, g .work-n))))
       (record { tells = x .tells; counted = λ e. part-counted part (x .tallied e); kept = part-kept part (x .kept) })
-
--- ---- the counts compared
-
--- the count is the one counted, and not 0 at a leader
-abbrev pub CountFound : ℕ → List ℕ → List ℕ → List ℕ → ℕ → Type 0
-CountFound n leaders counts work p = (counts ! p ≡ work ! (6 * n + p)) × (leaders ! p ≡ p → 0 < counts ! p)
-
--- counts: at a leader: the group's count; else 0; and every frozen piece is kept
-pub record CountsRight (b : Base) (counts : List ℕ) : Type 0 where
-  pub entries : Below (λ p. counts ! p ≡ countEntry b p) (b .n)
-  pub kept : (p : ℕ) → Frozen b p → Kept b p
-
-module _ {b : Base} (small : b .n ≤ 1024) (wells : Below (Well b) (b .n)) {leaders : List ℕ} (size : length leaders ≡ b .n) (right : LeadersRight b leaders)
-    {w : List ℕ} (C : CountedUp (b .n) (b .links) (b .holds) leaders w) where
-  entry : (p : ℕ) → p < b .n → w ! (6 * b .n + p) ≡ countEntry b p
-  entry p h = C .counts p h ∙ tally-entry b leaders (exact-right b leaders size small right) wells p h
-
-  leads : (p : ℕ) → Frozen b p → leaders ! p ≡ leaderOf b p
-  leads p f = right p (f .below) ∙ leaderEntry-frozen b p (f .is)
-
-  -- a piece that leads is frozen
-  frozen : (p : ℕ) → p < b .n → leaders ! p ≡ p → Frozen b p
-  unfolding state
-  frozen p h e =
-      record { below = h; is = ⊎-elim (λ x. x) (λ d. absurd (omega (arith, e, right p h, entry-other b p h d))) (eq-or (b .states ! p) 2) }
-
-  pub counts-told : (counts : List ℕ) {r : Bool} → Truthful (Below (CountFound (b .n) leaders counts w) (b .n)) r → Truthful (CountsRight b counts) r
-  counts-told counts = tells-same
-      (λ f. record {
-        entries = λ p h. f p h .0 ∙ entry p h;
-        kept = kept↔counts b (live-on b small wells) .1 (λ p fr e.
-            omega (arith, f p (fr .below) .1 (leads p fr ∙ e), f p (fr .below) .0, entry p (fr .below), countEntry-leads b p (fr .is) e));
-      })
-      (λ r p h. (
-        r .entries p h ∙ sym (entry p h),
-        λ e.
-            let fr = frozen p h e in
-            let l : leaderOf b p ≡ p = sym (leads p fr) ∙ e in
-            omega (arith, r .entries p h, countEntry-leads b p (fr .is) l, kept↔counts b (live-on b small wells) .0 (r .kept) p fr l),
-      ))

@@ -1,34 +1,58 @@
--- The passes decide whether the tables are sound: the first that says no refutes it, and the last decides it.
+-- The passes decide whether the tables are sound and the links into each draft right: the first that says no refutes it, and the last decides it.
 use mathlib.Core.Path.{_≡_, refl, sym, _∙_, ap}
 use mathlib.Core.Bool.{Bool, false, not, true}
 use mathlib.Core.List.{List, _++_}
 use Prim.Native.Nat.{ℕ, _+_, _*_, _≤_}
 use native.Mathlib.Omega.{arith}
+use lib.Dec.{T, eqb, eqb→eq}
 use lib.ListN.{length, drop, replicate, length-append, length-replicate, length-drop, getD-replicate, List·getD-append}
 use lib.Seq.{drop-at, getD-drop}
 use Rattle.rules.specs.Lists.{_!_}
-use Rattle.rules.specs.Tables.{Tables, isSound}
+use Rattle.rules.specs.Tests.{_&_}
+use Rattle.rules.specs.Tables.{Base, Tables, isSound, intoEntry, intoRight}
 use Rattle.rules.specs.Words.{Well, Sound, Sized}
 use Rattle.rules.specs.Calls.{clear, Clear}
+use Rattle.laws.specs.Below.{every→, →every}
+use Rattle.laws.specs.Tests.{and-both, and-left, and-right}
+use Rattle.laws.specs.Words.{eqb-of}
 use Rattle.laws.specs.Sound.{sound→entries, entries→sound, isSound→, →isSound}
 use Rattle.paths.specs.Classes.{frozen-closed}
+use Rattle.into.specs.Into.{Into, into-entries, into-entry}
 use Rattle.groups.specs.Grouped.{Searchable, Grouped, Of}
-use Rattle.sound.specs.Truthful.{Truthful, tells-no, told-yes, told-no, was-yes, tells-is, Below}
+use Rattle.sound.specs.Truthful.{Truthful, tells-no, tells-same, told-yes, told-no, was-yes, tells-is, Below}
 use Rattle.sound.specs.Wells.{HeldWell, state-most, holds-of, well-linked}
 use Rattle.sound.specs.Leaders.{LeaderFound, LeadersRight, leaders-told}
-use Rattle.sound.specs.Counted.{CountGiven, CountedUp, OutsideKept, UpTested, behind-regions, CountFound, counts-told}
+use Rattle.sound.specs.Counted.{CountGiven, CountedUp, OutsideKept, UpTested, behind-regions}
+use Rattle.sound.specs.Compared.{CountFound, counts-told}
 
--- whether the tables are sound; behind its eight regions work is as it was
-pub record Judged (s : Tables) (w w′ : List ℕ) (r : Bool) : Type 0 where
-  pub tells : Truthful (Sound s) r
+-- the links into each draft are right
+abbrev pub IntoSound : Base → List ℕ → Type 0
+IntoSound b into = Into (b .n) (b .states) (b .links) into
+
+-- whether the tables and the links into each draft are; behind its eight regions work is as it was
+pub record Judged (s : Tables) (into w w′ : List ℕ) (r : Bool) : Type 0 where
+  pub tells : Truthful (Sound s × IntoSound (s .base) into) r
   pub later : drop (8 * s .base .n) w′ ≡ drop (8 * s .base .n) w
 
-pub is-sound : {s : Tables} {w w′ : List ℕ} {r : Bool} → Judged s w w′ r → r ≡ isSound s
-is-sound {s} x = tells-is (isSound s) (isSound→ s) (→isSound s) (x .tells)
+module _ (b : Base) {into : List ℕ} where
+  right→ : length into ≡ b .n → T (intoRight b into) → IntoSound b into
+  unfolding intoRight
+  right→ size t = into-entries b size (λ p h. eqb→eq (into ! p) (intoEntry b p) (every→ (λ p. eqb (into ! p) (intoEntry b p)) (b .n) t p h))
+
+  →right : IntoSound b into → T (intoRight b into)
+  unfolding intoRight
+  →right x = →every (λ p. eqb (into ! p) (intoEntry b p)) (b .n) (λ p h. eqb-of {m = into ! p} {n = intoEntry b p} (into-entry b x p h))
+
+pub is-sound : {s : Tables} {into w w′ : List ℕ} {r : Bool} → length into ≡ s .base .n → Judged s into w w′ r → r ≡ (isSound s & intoRight (s .base) into)
+is-sound {s} {into} size x =
+    tells-is (isSound s & intoRight (s .base) into)
+    (λ t. (isSound→ s (and-left (isSound s) _ t), right→ (s .base) size (and-right (isSound s) (intoRight (s .base) into) t)))
+    (λ y. and-both (isSound s) _ (→isSound s (y .0)) (→right (s .base) (y .1)))
+    (x .tells)
 
 -- states and holds are not well
-pub not-held : {s : Tables} {w : List ℕ} {r : Bool} → Truthful (Below (HeldWell (s .base .states) (s .base .holds)) (s .base .n)) r → not r ≡ true → Judged s w w false
-not-held {s} held e = record { tells = tells-no (λ x. told-no held e (λ p h. holds-of (s .base) p (sound→entries s x .good .wells p h))); later = refl }
+pub not-held : {s : Tables} {into w : List ℕ} {r : Bool} → Truthful (Below (HeldWell (s .base .states) (s .base .holds)) (s .base .n)) r → not r ≡ true → Judged s into w w false
+not-held {s} held e = record { tells = tells-no (λ x. told-no held e (λ p h. holds-of (s .base) p (sound→entries s (x .0) .good .wells p h))); later = refl }
 
 -- ---- the first two passes
 
@@ -57,8 +81,8 @@ module _ {s : Tables} (z : Sized s) {w : List ℕ} (empty : Clear (s .base .n) w
     wells-told = well-linked (s .base) (told-yes held yes) (x .tells)
 
     -- links are not
-    pub not-linked : not r₁ ≡ true → Judged s w w₁ false
-    not-linked e = record { tells = tells-no (λ y. told-no wells-told e (sound→entries s y .good .wells)); later = x .kept .later }
+    pub not-linked : {into : List ℕ} → not r₁ ≡ true → Judged s into w w₁ false
+    not-linked e = record { tells = tells-no (λ y. told-no wells-told e (sound→entries s (y .0) .good .wells)); later = x .kept .later }
 
     pub well-counted : not r₁ ≡ false → WellCounted s w w₁
     well-counted e = record { wells = told-yes wells-told e; counted = x .counted (was-yes e); kept = x .kept }
@@ -82,8 +106,8 @@ module _ {s : Tables} {w w₁ : List ℕ} (z : Sized s) (C : WellCounted s w w�
       told = leaders-told (z .base .most) (C .wells) M (s .leaders) found
 
       -- leaders are not right
-      pub not-led : not r ≡ true → Judged s w w₂ false
-      not-led e = record { tells = tells-no (λ x. told-no told e (sound→entries s x .leaders)); later = later-same }
+      pub not-led : {into : List ℕ} → not r ≡ true → Judged s into w w₂ false
+      not-led e = record { tells = tells-no (λ x. told-no told e (sound→entries s (x .0) .leaders)); later = later-same }
 
       module _ (yes : not r ≡ false) where
         -- the search leaves the counts
@@ -94,19 +118,16 @@ module _ {s : Tables} {w w₁ : List ℕ} (z : Sized s) (C : WellCounted s w w�
         }
 
         -- they are: the counts decide
-        pub counts-judged : {r₁ : Bool} → Truthful (Below (CountFound (s .base .n) (s .leaders) (s .counts) w₂) (s .base .n)) r₁ → Judged s w w₂ r₁
-        counts-judged x =
+        pub counts-judged : {into : List ℕ} {r₁ : Bool} → length into ≡ s .base .n → Truthful (Below (CountFound (s .base .n) (s .leaders) (s .counts) into w₂) (s .base .n)) r₁
+            → Judged s into w w₂ r₁
+        counts-judged {into} size x =
             let right = told-yes told yes in
-            let counts = counts-told (z .base .most) (C .wells) (z .leaders) right counted-on (s .counts) x in
+            let counts = counts-told (z .base .most) (C .wells) (z .leaders) right counted-on (s .counts) into size x in
             record {
-              tells = record {
-                yes = λ e. entries→sound s (record {
-                  good = record { wells = C .wells; kept = counts .yes e .kept };
-                  leaders = right;
-                  counts = counts .yes e .entries;
-                });
-                no = λ e y. let entries = sound→entries s y in counts .no e (record { entries = entries .counts; kept = entries .good .kept });
-              };
+              tells = tells-same
+                  (λ c. (entries→sound s (record { good = record { wells = C .wells; kept = c .kept }; leaders = right; counts = c .entries }), c .into))
+                  (λ y. let entries = sound→entries s (y .0) in record { entries = entries .counts; kept = entries .good .kept; into = y .1 })
+                  counts;
               later = later-same;
             }
 
@@ -122,7 +143,7 @@ clears {n} w {w₁} h e =
           getD-replicate (8 * n) i 0 0 l;
     }
 
-pub cleared-again : {s : Tables} (w : List ℕ) {w₁ w₂ w₃ : List ℕ} {r : Bool} → w₁ ≡ replicate (8 * s .base .n) 0 ++ drop (8 * s .base .n) w → Judged s w₁ w₂ r
+pub cleared-again : {s : Tables} (w : List ℕ) {into w₁ w₂ w₃ : List ℕ} {r : Bool} → w₁ ≡ replicate (8 * s .base .n) 0 ++ drop (8 * s .base .n) w → Judged s into w₁ w₂ r
     → w₃ ≡ replicate (8 * s .base .n) 0 ++ drop (8 * s .base .n) w₂ → w₃ ≡ clear (s .base .n) w
 unfolding clear
 cleared-again {s} w d j e =

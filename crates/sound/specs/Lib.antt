@@ -1,7 +1,12 @@
 pub mod Truthful
 pub mod Faults
 pub mod Wells
+pub mod Labels
+pub mod Both
+pub mod Link
+pub mod Links
 pub mod Tested
 pub mod Leaders
 pub mod Counted
+pub mod Compared
 pub mod Judged

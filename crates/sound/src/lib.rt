@@ -1,18 +1,24 @@
-// The check of whole tables: every piece is well, leaders and counts are as defined, and no group has count 0.
-// Of the work, the first six regions of n entries are the search's, and the seventh has the counts.
+// The check of whole tables: every piece is well, leaders, counts and the links into each draft are as defined, and no group has count 0.
+// Of the work, the first six regions of n entries are the search's; the seventh has what is counted: for a group at its leader, for a draft at its number.
 // A pass that only compares counts its faults and is not left early: such a loop compiles to vector instructions.
 ghost use mathlib.Core.Path.{_≡_};
 ghost use Prim.Native.Nat.{_*_, _≤_, _<_};
 ghost use lib.ListN.{length};
-ghost use Rattle.rules.specs.Tables.{isSound, tablesOf};
+ghost use Rattle.rules.specs.Tests.{_&_};
+ghost use Rattle.rules.specs.Tables.{isSound, intoRight, baseOf, tablesOf};
 ghost use Rattle.rules.specs.Words.{Sized};
 ghost use Rattle.rules.specs.Calls.{clear, Clear};
+ghost use Rattle.counts.specs.Added.{HoldAdded};
 ghost use Rattle.sound.specs.Truthful.{Truthful, Below};
 ghost use Rattle.sound.specs.Faults.{Faults};
 ghost use Rattle.sound.specs.Wells.{HoldsWell, HeldWell};
-ghost use Rattle.sound.specs.Tested.{LinkGiven, LinkTested, LinksGiven, LinksTested, TablesGiven, AllTested};
+ghost use Rattle.sound.specs.Labels.{labelBy, labels};
+ghost use Rattle.sound.specs.Link.{HoldGiven, LinkGiven, LinkTested};
+ghost use Rattle.sound.specs.Links.{LinksGiven, LinksTested};
+ghost use Rattle.sound.specs.Tested.{TablesGiven, AllTested};
 ghost use Rattle.sound.specs.Leaders.{Led, LeaderFound};
-ghost use Rattle.sound.specs.Counted.{CountGiven, UpTested, CountFound};
+ghost use Rattle.sound.specs.Counted.{CountGiven, UpTested};
+ghost use Rattle.sound.specs.Compared.{countedOf, otherOf, Compared, CountFound};
 ghost use Rattle.sound.specs.Judged.{Judged};
 use rules::Store;
 
@@ -49,8 +55,28 @@ fn all_held(n: usize, states: &[u8], holds: &[u16]) -> bool
     faults == 0
 }
 
+// The label of a piece: its leader, and its own number if it has none.
+fn label(n: usize, leader: u16, p: usize) -> usize
+    ensures { λ r. ⌜ r ≡ labelBy n leader p ⌝ }
+{
+    let l = leader as usize;
+    if l < n {
+        return l;
+    }
+    p
+}
+
+// Adds the holds of a piece to the count of its label.
+fn add_hold(n: usize, leaders: &[u16], holds: &[u16], counts: &mut [u32], p: usize)
+    requires { ⌜ HoldGiven n (now leaders) (now holds) (now counts) p ⌝ }
+    ensures { λ _. ⌜ HoldAdded n (now (holds .entry)) (labels n (now (leaders .entry))) p (now (counts .entry)) (now (counts .exit)) ⌝ }
+{
+    let l = label(n, leaders[p], p);
+    counts[l] = counts[l] + holds[p] as u32;
+}
+
 // Whether a piece of this state, not free, may name the target: none, from a draft a live piece, from a frozen piece a frozen one.
-// If it may, the link is counted.
+// If it may, the link is counted, unless the target's label is the piece's own.
 fn link_well(
     n: usize,
     states: &[u8],
@@ -73,7 +99,11 @@ fn link_well(
     if states[t] < state {
         return false;
     }
-    counts::add_link(n, leaders, counts, own, target);
+    let l = label(n, leaders[t], t);
+    if l == own {
+        return true;
+    }
+    counts[l] = counts[l] + 1;
     true
 }
 
@@ -97,7 +127,7 @@ fn links_well(
     if state == Store::FREE {
         return false;
     }
-    let own = leaders[p] as usize;
+    let own = label(n, leaders[p], p);
     if !link_well(
         n,
         states,
@@ -159,7 +189,7 @@ fn all_linked(
 {
     let mut p = 0;
     while p < n {
-        counts::add_hold(n, holds, leaders, counts, p);
+        add_hold(n, leaders, holds, counts, p);
         if !links_well(n, states, links, leaders, counts, p) {
             return false;
         }
@@ -215,14 +245,24 @@ fn leaders_found(n: usize, states: &[u8], leaders: &[u16], work: &[u32]) -> bool
     faults == 0
 }
 
-// 1 unless the count is the one counted.
-fn count_fault(count: u32, counted: u32) -> u32
-    ensures { λ r. ⌜ Faults (count ≡ counted) 1 r ⌝ }
+// What is counted for a piece: its count if it has a leader, else the links into it.
+fn counted_entry(leader: u16, count: u32, into: u16) -> u32
+    ensures { λ r. ⌜ r ≡ countedOf leader count into ⌝ }
 {
-    if count == counted {
-        return 0;
+    if leader == Store::NONE {
+        return into as u32;
     }
-    1
+    count
+}
+
+// What is not: it has to be 0.
+fn other_entry(leader: u16, count: u32, into: u16) -> u32
+    ensures { λ r. ⌜ r ≡ otherOf leader count into ⌝ }
+{
+    if leader == Store::NONE {
+        return count;
+    }
+    into as u32
 }
 
 // 1 if the piece leads a group of count 0.
@@ -238,24 +278,34 @@ fn idle_fault(leader: u16, p: u16, count: u32) -> u32
     0
 }
 
-// Whether all counts are those counted, and no group has count 0.
-fn counts_found(n: usize, leaders: &[u16], counts: &[u32], work: &[u32]) -> bool
-    requires { ⌜ (n ≤ 1024) × (length (now leaders) ≡ n) × (length (now counts) ≡ n) × (8 * n ≤ length (now work)) ⌝ }
-    ensures { λ r. ⌜ Truthful (Below (CountFound n (now (leaders .entry)) (now (counts .entry)) (now (work .entry))) n) r ⌝ }
+// 1 unless the entries of a piece are those counted, and its count is not 0 if it leads.
+fn count_fault(leader: u16, p: u16, count: u32, into: u16, counted: u32) -> u32
+    ensures { λ r. ⌜ Faults (Compared leader p count into counted) 1 r ⌝ }
+{
+    if counted_entry(leader, count, into) != counted {
+        return 1;
+    }
+    if other_entry(leader, count, into) != 0 {
+        return 1;
+    }
+    idle_fault(leader, p, count)
+}
+
+// Whether all counts and the links into each draft are those counted, and no group has count 0.
+fn counts_found(n: usize, leaders: &[u16], counts: &[u32], into: &[u16], work: &[u32]) -> bool
+    requires { ⌜ (n ≤ 1024) × (length (now leaders) ≡ n) × (length (now counts) ≡ n) × (length (now into) ≡ n) × (8 * n ≤ length (now work)) ⌝ }
+    ensures { λ r. ⌜ Truthful (Below (CountFound n (now (leaders .entry)) (now (counts .entry)) (now (into .entry)) (now (work .entry))) n) r ⌝ }
 {
     let mut faults: u32 = 0;
     let mut p = 0;
     while p < n {
-        let count = counts[p];
-        faults = faults
-            + count_fault(count, work[6 * n + p])
-            + idle_fault(leaders[p], p as u16, count);
+        faults = faults + count_fault(leaders[p], p as u16, counts[p], into[p], work[6 * n + p]);
         p += 1;
     }
     faults == 0
 }
 
-// Whether the tables are sound, over work whose first 8N entries are 0.
+// Whether the tables are sound and the links into each draft right, over work whose first 8N entries are 0.
 fn judge(
     n: usize,
     states: &[u8],
@@ -263,10 +313,12 @@ fn judge(
     leaders: &[u16],
     holds: &[u16],
     counts: &[u32],
+    into: &[u16],
     work: &mut [u32],
 ) -> bool
-    requires { ⌜ Sized (tablesOf n (now states) (now links) (now leaders) (now holds) (now counts)) × Clear n (now work) ⌝ }
-    ensures { λ r. ⌜ Judged (tablesOf n (now (states .entry)) (now (links .entry)) (now (leaders .entry)) (now (holds .entry)) (now (counts .entry))) (now (work .entry)) (now (work .exit)) r ⌝ }
+    requires { ⌜ Sized (tablesOf n (now states) (now links) (now leaders) (now holds) (now counts)) × (length (now into) ≡ n) × Clear n (now work) ⌝ }
+    ensures { λ r. ⌜ Judged (tablesOf n (now (states .entry)) (now (links .entry)) (now (leaders .entry)) (now (holds .entry)) (now (counts .entry))) (now (into .entry))
+        (now (work .entry)) (now (work .exit)) r ⌝ }
 {
     if !all_held(n, states, holds) {
         return false;
@@ -278,10 +330,10 @@ fn judge(
     if !leaders_found(n, states, leaders, work) {
         return false;
     }
-    counts_found(n, leaders, counts, work)
+    counts_found(n, leaders, counts, into, work)
 }
 
-// Whether the tables are sound. Of work the first 8N entries are 0 on return and later ones unchanged.
+// Whether the tables are sound and the links into each draft right. Of work the first 8N entries are 0 on return and later ones unchanged.
 pub fn is_sound(
     n: usize,
     states: &[u8],
@@ -289,14 +341,16 @@ pub fn is_sound(
     leaders: &[u16],
     holds: &[u16],
     counts: &[u32],
+    into: &[u16],
     work: &mut [u32],
 ) -> bool
-    requires { ⌜ (1 ≤ n) × Sized (tablesOf n (now states) (now links) (now leaders) (now holds) (now counts)) × (8 * n ≤ length (now work)) ⌝ }
-    ensures { λ r. ⌜ (r ≡ isSound (tablesOf n (now (states .entry)) (now (links .entry)) (now (leaders .entry)) (now (holds .entry)) (now (counts .entry)))) ×
+    requires { ⌜ (1 ≤ n) × Sized (tablesOf n (now states) (now links) (now leaders) (now holds) (now counts)) × (length (now into) ≡ n) × (8 * n ≤ length (now work)) ⌝ }
+    ensures { λ r. ⌜ (r ≡ (isSound (tablesOf n (now (states .entry)) (now (links .entry)) (now (leaders .entry)) (now (holds .entry)) (now (counts .entry))) &
+        intoRight (baseOf n (now (states .entry)) (now (links .entry)) (now (holds .entry))) (now (into .entry)))) ×
         (now (work .exit) ≡ clear n (now (work .entry))) ⌝ }
 {
     areas::fill_u32(work, 8 * n, 0);
-    let sound = judge(n, states, links, leaders, holds, counts, work);
+    let sound = judge(n, states, links, leaders, holds, counts, into, work);
     areas::fill_u32(work, 8 * n, 0);
     sound
 }

@@ -19,12 +19,14 @@ pub fn start(
     holds: &mut [u16],
     counts: &mut [u32],
     register: &mut [u16],
+    into: &mut [u16],
 ) -> Answer
     ensures { λ r. ⌜ Promise start
-        (areasOf (storeOf n (now (states .entry)) (now (links .entry)) (now (leaders .entry)) (now (holds .entry)) (now (counts .entry)) (now (register .entry))) [] [])
-        (outcome (answered r) (areasOf (storeOf n (now (states .exit)) (now (links .exit)) (now (leaders .exit)) (now (holds .exit)) (now (counts .exit)) (now (register .exit))) [] [])) ⌝ }
+        (areasOf (storeOf n (now (states .entry)) (now (links .entry)) (now (leaders .entry)) (now (holds .entry)) (now (counts .entry)) (now (register .entry)) (now (into .entry))) [] [])
+        (outcome (answered r)
+        (areasOf (storeOf n (now (states .exit)) (now (links .exit)) (now (leaders .exit)) (now (holds .exit)) (now (counts .exit)) (now (register .exit)) (now (into .exit))) [] [])) ⌝ }
 {
-    if !entering::sized(n, states, links, leaders, holds, counts, register) {
+    if !entering::sized(n, states, links, leaders, holds, counts, register, into) {
         return Answer::Refused(Refusal::Size);
     }
     areas::fill_u8(states, n, 0);
@@ -33,6 +35,7 @@ pub fn start(
     areas::fill_u16(holds, n, 0);
     areas::fill_u32(counts, n, 0);
     register::clear(register);
+    areas::fill_u16(into, n, 0);
     Store::fresh()
 }
 
@@ -45,13 +48,15 @@ pub fn new(
     holds: &[u16],
     counts: &[u32],
     register: &[u16],
+    into: &[u16],
     list: &[u16],
     work: &mut [u32],
 ) -> Answer
     ensures { λ r. ⌜ Promise (does New)
-        (areasOf (storeOf n (now (states .entry)) (now (links .entry)) (now (leaders .entry)) (now (holds .entry)) (now (counts .entry)) (now (register .entry)))
+        (areasOf (storeOf n (now (states .entry)) (now (links .entry)) (now (leaders .entry)) (now (holds .entry)) (now (counts .entry)) (now (register .entry)) (now (into .entry)))
         (now (list .entry)) (now (work .entry)))
-        (outcome (answered r) (areasOf (storeOf n (now (states .exit)) (now (links .entry)) (now (leaders .entry)) (now (holds .entry)) (now (counts .entry)) (now (register .entry)))
+        (outcome (answered r)
+        (areasOf (storeOf n (now (states .exit)) (now (links .entry)) (now (leaders .entry)) (now (holds .entry)) (now (counts .entry)) (now (register .entry)) (now (into .entry)))
         (now (list .entry)) (now (work .exit)))) ⌝ }
 {
     match entering::enter(
@@ -62,15 +67,13 @@ pub fn new(
         holds,
         counts,
         register,
+        into,
         list.len(),
         work,
     ) {
         Entry::Short => Answer::Refused(Refusal::Size),
         Entry::Flawed => Answer::Refused(Refusal::Unsound),
-        Entry::Sound => {
-            let from = areas::none_free(n, states);
-            giving::new(n, states, from)
-        }
+        Entry::Sound => giving::new(n, states, 0),
     }
 }
 
@@ -83,6 +86,7 @@ pub fn set(
     holds: &[u16],
     counts: &mut [u32],
     register: &[u16],
+    into: &mut [u16],
     list: &mut [u16],
     work: &mut [u32],
     p: u16,
@@ -90,9 +94,9 @@ pub fn set(
     t: u16,
 ) -> Answer
     ensures { λ r. ⌜ Promise (does (Set p k t))
-        (areasOf (storeOf n (now (states .entry)) (now (links .entry)) (now (leaders .entry)) (now (holds .entry)) (now (counts .entry)) (now (register .entry)))
+        (areasOf (storeOf n (now (states .entry)) (now (links .entry)) (now (leaders .entry)) (now (holds .entry)) (now (counts .entry)) (now (register .entry)) (now (into .entry)))
         (now (list .entry)) (now (work .entry)))
-        (outcome (answered r) (areasOf (storeOf n (now (states .exit)) (now (links .exit)) (now (leaders .exit)) (now (holds .entry)) (now (counts .exit)) (now (register .entry)))
+        (outcome (answered r) (areasOf (storeOf n (now (states .exit)) (now (links .exit)) (now (leaders .exit)) (now (holds .entry)) (now (counts .exit)) (now (register .entry)) (now (into .exit)))
         (now (list .exit)) (now (work .exit)))) ⌝ }
 {
     match entering::enter(
@@ -103,12 +107,25 @@ pub fn set(
         holds,
         counts,
         register,
+        into,
         list.len(),
         work,
     ) {
         Entry::Short => Answer::Refused(Refusal::Size),
         Entry::Flawed => Answer::Refused(Refusal::Unsound),
-        Entry::Sound => setting::set_link(n, states, links, leaders, holds, counts, list, p, k, t),
+        Entry::Sound => setting::set_link(
+            n,
+            states,
+            links,
+            leaders,
+            holds,
+            counts,
+            into,
+            list,
+            p,
+            k,
+            t,
+        ),
     }
 }
 
@@ -121,15 +138,16 @@ pub fn freeze(
     holds: &mut [u16],
     counts: &mut [u32],
     register: &mut [u16],
+    into: &mut [u16],
     list: &[u16],
     work: &mut [u32],
     p: u16,
     seat: u16,
 ) -> Answer
     ensures { λ r. ⌜ Promise (does (Freeze p seat))
-        (areasOf (storeOf n (now (states .entry)) (now (links .entry)) (now (leaders .entry)) (now (holds .entry)) (now (counts .entry)) (now (register .entry)))
+        (areasOf (storeOf n (now (states .entry)) (now (links .entry)) (now (leaders .entry)) (now (holds .entry)) (now (counts .entry)) (now (register .entry)) (now (into .entry)))
         (now (list .entry)) (now (work .entry)))
-        (outcome (answered r) (areasOf (storeOf n (now (states .exit)) (now (links .entry)) (now (leaders .exit)) (now (holds .exit)) (now (counts .exit)) (now (register .exit)))
+        (outcome (answered r) (areasOf (storeOf n (now (states .exit)) (now (links .entry)) (now (leaders .exit)) (now (holds .exit)) (now (counts .exit)) (now (register .exit)) (now (into .exit)))
         (now (list .entry)) (now (work .exit)))) ⌝ }
 {
     match entering::enter(
@@ -140,23 +158,29 @@ pub fn freeze(
         holds,
         counts,
         register,
+        into,
         list.len(),
         work,
     ) {
         Entry::Short => Answer::Refused(Refusal::Size),
         Entry::Flawed => Answer::Refused(Refusal::Unsound),
-        Entry::Sound => freezing::freeze(
-            n,
-            states,
-            links,
-            leaders,
-            holds,
-            counts,
-            register,
-            work,
-            p,
-            seat,
-        ),
+        Entry::Sound => {
+            let answer = freezing::freeze(
+                n,
+                states,
+                links,
+                leaders,
+                holds,
+                counts,
+                register,
+                into,
+                work,
+                p,
+                seat,
+            );
+            areas::fill_u32(work, 8 * n, 0);
+            answer
+        }
     }
 }
 
@@ -169,15 +193,16 @@ pub fn acquire(
     holds: &mut [u16],
     counts: &mut [u32],
     register: &mut [u16],
+    into: &[u16],
     list: &[u16],
     work: &mut [u32],
     p: u16,
     seat: u16,
 ) -> Answer
     ensures { λ r. ⌜ Promise (does (Acquire p seat))
-        (areasOf (storeOf n (now (states .entry)) (now (links .entry)) (now (leaders .entry)) (now (holds .entry)) (now (counts .entry)) (now (register .entry)))
+        (areasOf (storeOf n (now (states .entry)) (now (links .entry)) (now (leaders .entry)) (now (holds .entry)) (now (counts .entry)) (now (register .entry)) (now (into .entry)))
         (now (list .entry)) (now (work .entry)))
-        (outcome (answered r) (areasOf (storeOf n (now (states .entry)) (now (links .entry)) (now (leaders .entry)) (now (holds .exit)) (now (counts .exit)) (now (register .exit)))
+        (outcome (answered r) (areasOf (storeOf n (now (states .entry)) (now (links .entry)) (now (leaders .entry)) (now (holds .exit)) (now (counts .exit)) (now (register .exit)) (now (into .entry)))
         (now (list .entry)) (now (work .exit)))) ⌝ }
 {
     match entering::enter(
@@ -188,6 +213,7 @@ pub fn acquire(
         holds,
         counts,
         register,
+        into,
         list.len(),
         work,
     ) {
@@ -206,15 +232,16 @@ pub fn release(
     holds: &mut [u16],
     counts: &mut [u32],
     register: &mut [u16],
+    into: &[u16],
     list: &mut [u16],
     work: &mut [u32],
     p: u16,
     seat: u16,
 ) -> Answer
     ensures { λ r. ⌜ Promise (does (Release p seat))
-        (areasOf (storeOf n (now (states .entry)) (now (links .entry)) (now (leaders .entry)) (now (holds .entry)) (now (counts .entry)) (now (register .entry)))
+        (areasOf (storeOf n (now (states .entry)) (now (links .entry)) (now (leaders .entry)) (now (holds .entry)) (now (counts .entry)) (now (register .entry)) (now (into .entry)))
         (now (list .entry)) (now (work .entry)))
-        (outcome (answered r) (areasOf (storeOf n (now (states .exit)) (now (links .exit)) (now (leaders .exit)) (now (holds .exit)) (now (counts .exit)) (now (register .exit)))
+        (outcome (answered r) (areasOf (storeOf n (now (states .exit)) (now (links .exit)) (now (leaders .exit)) (now (holds .exit)) (now (counts .exit)) (now (register .exit)) (now (into .entry)))
         (now (list .exit)) (now (work .exit)))) ⌝ }
 {
     match entering::enter(
@@ -225,6 +252,7 @@ pub fn release(
         holds,
         counts,
         register,
+        into,
         list.len(),
         work,
     ) {
@@ -254,14 +282,15 @@ pub fn bin(
     holds: &[u16],
     counts: &mut [u32],
     register: &[u16],
+    into: &mut [u16],
     list: &mut [u16],
     work: &mut [u32],
     p: u16,
 ) -> Answer
     ensures { λ r. ⌜ Promise (does (Bin p))
-        (areasOf (storeOf n (now (states .entry)) (now (links .entry)) (now (leaders .entry)) (now (holds .entry)) (now (counts .entry)) (now (register .entry)))
+        (areasOf (storeOf n (now (states .entry)) (now (links .entry)) (now (leaders .entry)) (now (holds .entry)) (now (counts .entry)) (now (register .entry)) (now (into .entry)))
         (now (list .entry)) (now (work .entry)))
-        (outcome (answered r) (areasOf (storeOf n (now (states .exit)) (now (links .exit)) (now (leaders .exit)) (now (holds .entry)) (now (counts .exit)) (now (register .entry)))
+        (outcome (answered r) (areasOf (storeOf n (now (states .exit)) (now (links .exit)) (now (leaders .exit)) (now (holds .entry)) (now (counts .exit)) (now (register .entry)) (now (into .exit)))
         (now (list .exit)) (now (work .exit)))) ⌝ }
 {
     match entering::enter(
@@ -272,12 +301,13 @@ pub fn bin(
         holds,
         counts,
         register,
+        into,
         list.len(),
         work,
     ) {
         Entry::Short => Answer::Refused(Refusal::Size),
         Entry::Flawed => Answer::Refused(Refusal::Unsound),
-        Entry::Sound => binning::bin(n, states, links, leaders, holds, counts, list, p),
+        Entry::Sound => binning::bin(n, states, links, leaders, holds, counts, into, list, p),
     }
 }
 
@@ -290,15 +320,28 @@ pub fn look(
     holds: &[u16],
     counts: &[u32],
     register: &[u16],
+    into: &[u16],
     work: &mut [u32],
     p: u16,
 ) -> Seen
     ensures { λ r. ⌜ Promise (does (Look p))
-        (areasOf (storeOf n (now (states .entry)) (now (links .entry)) (now (leaders .entry)) (now (holds .entry)) (now (counts .entry)) (now (register .entry))) [] (now (work .entry)))
-        (outcome (saw r) (areasOf (storeOf n (now (states .entry)) (now (links .entry)) (now (leaders .entry)) (now (holds .entry)) (now (counts .entry)) (now (register .entry)))
+        (areasOf (storeOf n (now (states .entry)) (now (links .entry)) (now (leaders .entry)) (now (holds .entry)) (now (counts .entry)) (now (register .entry)) (now (into .entry)))
+        [] (now (work .entry)))
+        (outcome (saw r) (areasOf (storeOf n (now (states .entry)) (now (links .entry)) (now (leaders .entry)) (now (holds .entry)) (now (counts .entry)) (now (register .entry)) (now (into .entry)))
         [] (now (work .exit)))) ⌝ }
 {
-    match entering::enter(n, states, links, leaders, holds, counts, register, n, work) {
+    match entering::enter(
+        n,
+        states,
+        links,
+        leaders,
+        holds,
+        counts,
+        register,
+        into,
+        n,
+        work,
+    ) {
         Entry::Short => Seen::Unseen(Refusal::Size),
         Entry::Flawed => Seen::Unseen(Refusal::Unsound),
         Entry::Sound => looking::look(n, states, links, leaders, holds, counts, p),
@@ -314,14 +357,28 @@ pub fn check(
     holds: &[u16],
     counts: &[u32],
     register: &[u16],
+    into: &[u16],
     work: &mut [u32],
 ) -> Checked
     ensures { λ r. ⌜ Promise check
-        (areasOf (storeOf n (now (states .entry)) (now (links .entry)) (now (leaders .entry)) (now (holds .entry)) (now (counts .entry)) (now (register .entry))) [] (now (work .entry)))
-        (outcome (checked r) (areasOf (storeOf n (now (states .entry)) (now (links .entry)) (now (leaders .entry)) (now (holds .entry)) (now (counts .entry)) (now (register .entry)))
+        (areasOf (storeOf n (now (states .entry)) (now (links .entry)) (now (leaders .entry)) (now (holds .entry)) (now (counts .entry)) (now (register .entry)) (now (into .entry)))
+        [] (now (work .entry)))
+        (outcome (checked r)
+        (areasOf (storeOf n (now (states .entry)) (now (links .entry)) (now (leaders .entry)) (now (holds .entry)) (now (counts .entry)) (now (register .entry)) (now (into .entry)))
         [] (now (work .exit)))) ⌝ }
 {
-    match entering::enter(n, states, links, leaders, holds, counts, register, n, work) {
+    match entering::enter(
+        n,
+        states,
+        links,
+        leaders,
+        holds,
+        counts,
+        register,
+        into,
+        n,
+        work,
+    ) {
         Entry::Short => Checked::Unchecked(Refusal::Size),
         Entry::Flawed => Checked::No,
         Entry::Sound => Checked::Yes,

@@ -6,3 +6,4 @@ pub mod Adding
 pub mod Places
 pub mod Finished
 pub mod Stores
+pub mod Joined

@@ -9,6 +9,7 @@ use native.Mathlib.Omega.{arith}
 use lib.ListN.{getD, length}
 use Rattle.rules.specs.Below.{sum}
 use Rattle.rules.specs.Tests.{onlyIf}
+use Rattle.laws.specs.Below.{sum-change}
 use Rattle.laws.specs.Counts.{sum-most}
 use Rattle.laws.specs.Numbers.{eq-or}
 
@@ -21,6 +22,22 @@ pub sum-cong : (f g : ℕ → ℕ) (k : ℕ) → ((p : ℕ) → p < k → f p �
 unfolding sum
 sum-cong f g zero h = refl
 sum-cong f g (suc k) h = ap₂ (λ (x y : ℕ). x + y) (sum-cong f g k (λ p l. h p (omega arith))) (h k (le-refl (suc k)))
+
+-- two sums added, term by term
+pub sum-joined : (f g h : ℕ → ℕ) (k : ℕ) → ((p : ℕ) → p < k → f p ≡ g p + h p) → sum f k ≡ sum g k + sum h k
+unfolding sum
+sum-joined f g h zero e = refl
+sum-joined f g h (suc k) e = omega (arith, sum-joined f g h k (λ p l. e p (omega arith)), e k (le-refl (suc k)))
+
+-- all terms 0
+pub sum-zero : (f : ℕ → ℕ) (k : ℕ) → ((p : ℕ) → p < k → f p ≡ 0) → sum f k ≡ 0
+unfolding sum
+sum-zero f zero h = refl
+sum-zero f (suc k) h = omega (arith, sum-zero f k (λ p l. h p (omega arith)), h k (le-refl (suc k)))
+
+-- all but one
+pub sum-one : (f : ℕ → ℕ) (k p : ℕ) → p < k → ((q : ℕ) → q < k → (q ≡ p → ⊥) → f q ≡ 0) → sum f k ≡ f p
+sum-one f k p h z = omega (arith, sum-change f (λ _. 0) k p h (λ q l d. z q l d), sum-zero (λ _. 0) k (λ _ _. refl))
 
 -- at most 1 each, and one of them 0: less than k
 pub sum-room : (f : ℕ → ℕ) (k q : ℕ) → q < k → ((p : ℕ) → p < k → f p ≤ 1) → f q ≡ 0 → sum f k < k

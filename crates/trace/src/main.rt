@@ -33,15 +33,18 @@ fn serve(
     holds: &mut [u16],
     counts: &mut [u32],
     register: &mut [u16],
+    into: &mut [u16],
     list: &mut [u16],
     work: &mut [u32],
     from: usize,
     out: &mut [u8],
 ) -> Lines
-    requires { ⌜ Stands most (storeOf most (now states) (now links) (now leaders) (now holds) (now counts) (now register)) (now list) (now work) from
+    requires { ⌜ Stands most (storeOf most (now states) (now links) (now leaders) (now holds) (now counts) (now register) (now into)) (now list) (now work) from
         × Closed (now text) × (longest ≤ length (now out)) ⌝ }
-    ensures { λ r. ⌜ Served (storeOf most (now (states .entry)) (now (links .entry)) (now (leaders .entry)) (now (holds .entry)) (now (counts .entry)) (now (register .entry))) (now (text .entry))
-        (storeOf most (now (states .exit)) (now (links .exit)) (now (leaders .exit)) (now (holds .exit)) (now (counts .exit)) (now (register .exit))) (now (list .exit)) (now (work .exit)) r ⌝ }
+    ensures { λ r. ⌜ Served
+        (storeOf most (now (states .entry)) (now (links .entry)) (now (leaders .entry)) (now (holds .entry)) (now (counts .entry)) (now (register .entry)) (now (into .entry))) (now (text .entry))
+        (storeOf most (now (states .exit)) (now (links .exit)) (now (leaders .exit)) (now (holds .exit)) (now (counts .exit)) (now (register .exit)) (now (into .exit)))
+        (now (list .exit)) (now (work .exit)) r ⌝ }
 {
     let mut at = 0;
     let mut low = from;
@@ -55,6 +58,7 @@ fn serve(
             holds,
             counts,
             register,
+            into,
             list,
             work,
             low,
@@ -135,17 +139,18 @@ fn turn(
     holds: &mut [u16],
     counts: &mut [u32],
     register: &mut [u16],
+    into: &mut [u16],
     list: &mut [u16],
     work: &mut [u32],
     from: usize,
     out: &mut [u8],
 ) -> Next
-    requires { ⌜ Keeps (storeOf most (now states) (now links) (now leaders) (now holds) (now counts) (now register)) (now list) (now work) (now buf) kept from
+    requires { ⌜ Keeps (storeOf most (now states) (now links) (now leaders) (now holds) (now counts) (now register) (now into)) (now list) (now work) (now buf) kept from
         × (kept < length (now buf)) × (longest ≤ length (now out)) ⌝ }
-    ensures { λ r. ⌜ Turned (storeOf most (now (states .entry)) (now (links .entry)) (now (leaders .entry)) (now (holds .entry)) (now (counts .entry)) (now (register .entry)))
+    ensures { λ r. ⌜ Turned (storeOf most (now (states .entry)) (now (links .entry)) (now (leaders .entry)) (now (holds .entry)) (now (counts .entry)) (now (register .entry)) (now (into .entry)))
         (take kept (now (buf .entry)))
-        (storeOf most (now (states .exit)) (now (links .exit)) (now (leaders .exit)) (now (holds .exit)) (now (counts .exit)) (now (register .exit))) (now (list .exit)) (now (work .exit))
-        (now (buf .exit)) r ⌝ }
+        (storeOf most (now (states .exit)) (now (links .exit)) (now (leaders .exit)) (now (holds .exit)) (now (counts .exit)) (now (register .exit)) (now (into .exit)))
+        (now (list .exit)) (now (work .exit)) (now (buf .exit)) r ⌝ }
 {
     let chunk = read_more(buf, kept);
     if chunk.failed {
@@ -161,6 +166,7 @@ fn turn(
         holds,
         counts,
         register,
+        into,
         list,
         work,
         from,
@@ -197,10 +203,11 @@ fn finish(
     holds: &[u16],
     counts: &[u32],
     register: &[u16],
+    into: &[u16],
     out: &mut [u8],
 )
-    requires { ⌜ ReadyStore (storeOf most (now states) (now links) (now leaders) (now holds) (now counts) (now register))
-        × Finished most (storeOf most (now states) (now links) (now leaders) (now holds) (now counts) (now register)) × (64 ≤ length (now out)) ⌝ }
+    requires { ⌜ ReadyStore (storeOf most (now states) (now links) (now leaders) (now holds) (now counts) (now register) (now into))
+        × Finished most (storeOf most (now states) (now links) (now leaders) (now holds) (now counts) (now register) (now into)) × (64 ≤ length (now out)) ⌝ }
 {
     let size = reader::close(Store::MOST, states, leaders, out, 0);
     if !io::write_all(STDOUT_FILENO, &out[..size]) {
@@ -216,6 +223,7 @@ fn run() {
     let mut holds = [0u16; 1024];
     let mut counts = [0u32; 1024];
     let mut register = [0u16; Store::ENTRIES];
+    let mut into = [0u16; 1024];
     let mut list = [0u16; 1024];
     let mut work = [0u32; 8192];
     let mut buf = [0u8; 65536];
@@ -233,6 +241,7 @@ fn run() {
             &mut holds,
             &mut counts,
             &mut register,
+            &mut into,
             &mut list,
             &mut work,
             from,
@@ -255,6 +264,7 @@ fn run() {
                     &holds,
                     &counts,
                     &register,
+                    &into,
                     &mut out,
                 );
                 return;

@@ -2,6 +2,7 @@
 
 pub mod account;
 pub mod author;
+pub mod growth;
 pub mod profiles;
 pub mod program;
 pub mod random;

@@ -69,6 +69,7 @@ pub fn request(call: Call, tables: &Tables) -> Vec<u8> {
     put(&mut request, &tables.holds);
     put(&mut request, &tables.counts);
     put(&mut request, &tables.register);
+    put(&mut request, &tables.into);
     put(&mut request, &tables.list);
     put(&mut request, &tables.work);
     request
@@ -89,6 +90,7 @@ pub fn left(answer: &mut dyn Read, lent: &Tables) -> io::Result<Option<Tables>> 
     let holds = take(answer, lent.holds.len())?;
     let counts = take(answer, lent.counts.len())?;
     let register = take(answer, lent.register.len())?;
+    let into = take(answer, lent.into.len())?;
     let list = take(answer, lent.list.len())?;
     let work = take(answer, lent.work.len())?;
     let whole = || {
@@ -100,6 +102,7 @@ pub fn left(answer: &mut dyn Read, lent: &Tables) -> io::Result<Option<Tables>> 
             holds: holds?,
             counts: counts?,
             register: register?,
+            into: into?,
             list: list?,
             work: work?,
         })

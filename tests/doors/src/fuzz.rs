@@ -133,13 +133,13 @@ fn spoil_line(random: &mut Random, register: &mut Vec<u16>, n: usize) {
     register.resize(LINE * LINES, 0);
 }
 
-/// Changes one entry of the store or a line; after a link to a piece or a line, holds, leaders and
-/// counts may follow.
+/// Changes one entry of the store or a line; after a link to a piece or a line, holds, leaders,
+/// counts and the links into drafts may follow.
 fn spoil(random: &mut Random, tables: &mut Tables, n: usize) {
     let p = random.below(n);
     let q = random.pick(&[0, p as u16, n as u16 - 1, n as u16, 65_535]);
     let any = random.below(n) as u16;
-    let kind = random.below(9);
+    let kind = random.below(10);
     match kind {
         0 => tables.states[p] = random.pick(&[0, 1, 2, 2, 3]),
         1 => tables.links[4 * p + random.below(4)] = q,
@@ -148,20 +148,22 @@ fn spoil(random: &mut Random, tables: &mut Tables, n: usize) {
         4 => tables.holds[p] = random.pick(&[0, 1, 2, 999, 1_000, 1_001]),
         5 => tables.counts[p] = tables.counts[p].wrapping_add(1),
         6 => tables.counts[p] = tables.counts[p].wrapping_sub(1),
+        7 => tables.into[p] = random.pick(&[0, 1, tables.into[p] ^ 1, 4_092, 65_535]),
         _ => spoil_line(random, &mut tables.register, n),
     }
-    if (kind == 2 || kind > 6) && random.once_in(2) {
+    if (kind == 2 || kind > 7) && random.once_in(2) {
         define(tables);
     }
 }
 
-/// What a call brought up: its answer, how many were freed, and the states, holds and number of
-/// lines after it.
+/// What a call brought up: its answer, how many were freed, and the states, holds, links into drafts
+/// and number of lines after it.
 fn brought_by(answer: u64, tables: &Tables) -> u64 {
     let holds = tables.holds.iter().map(|&holds| holds.min(3) as u8);
     let used = tables.register.chunks(LINE).take_while(|line| line[2] > 0).count();
     let lines = [used.min(8) as u8, u8::from(used == LINES)];
-    let after = tables.states.iter().copied().chain(holds).chain(lines);
+    let into = tables.into.iter().map(|&into| into.min(3) as u8);
+    let after = tables.states.iter().copied().chain(holds).chain(into).chain(lines);
     let shape = after.fold(tables.n as u64, |sum, x| 31 * (sum % (1 << 40)) + u64::from(x));
     (answer & 0xff) << 56 ^ (answer >> 32 & 0xf) << 48 ^ shape
 }

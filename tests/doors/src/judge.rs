@@ -38,6 +38,7 @@ fn areas(wanted: &Tables, got: &Tables) -> Option<String> {
         .or_else(|| area("holds", &wanted.holds, &got.holds))
         .or_else(|| area("counts", &wanted.counts, &got.counts))
         .or_else(|| area("register", &wanted.register, &got.register))
+        .or_else(|| area("into", &wanted.into, &got.into))
         .or_else(|| area("list", &wanted.list, &got.list))
         .or_else(|| area("work", &wanted.work, &got.work))
 }

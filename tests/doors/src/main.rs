@@ -6,8 +6,10 @@ mod door;
 mod fuzz;
 mod guarded;
 mod holding;
+mod into;
 mod judge;
 mod lent;
+mod miscounted;
 mod near;
 mod packed;
 mod sequences;
@@ -34,6 +36,8 @@ const PHASES: &[Phase] = &[
     ("holds up to the limit", 1, holding::limit),
     ("pieces handed in twice", 4, holding::twice),
     ("a register that is full", 3, holding::register),
+    ("drafts that name each other", 5, into::knots),
+    ("all links into one draft", 1, into::most),
     ("calls on large stores", 1, sequences::large),
     ("chains and rings let go", 1, sequences::chains),
     ("single entries changed", 20, spoiled::singles),

@@ -1,5 +1,6 @@
 //! Tables that are unsound in one respect, by name.
 
+use crate::miscounted::{recount, MISCOUNTED};
 use crate::stores::define;
 use crate::unregistered::UNREGISTERED;
 use compare::random::Random;
@@ -34,7 +35,7 @@ fn lead_by(t: &mut Tables, one: usize, other: usize) {
 }
 
 /// Links P to Q by an empty link place of P.
-fn link(t: &mut Tables, p: usize, q: usize) -> Option<()> {
+pub fn link(t: &mut Tables, p: usize, q: usize) -> Option<()> {
     let k = (0..4).find(|k| t.links[4 * p + k] == NONE)?;
     t.links[4 * p + k] = q as u16;
     Some(())
@@ -43,16 +44,21 @@ fn link(t: &mut Tables, p: usize, q: usize) -> Option<()> {
 /// A change that makes sound tables unsound in one respect, none if they have no place for it.
 pub type Spoil = fn(&mut Tables, &mut Random) -> Option<()>;
 
-/// All near misses: of the other tables, then of the register.
+/// All near misses: of the other tables, of the register, and of the links into drafts.
 pub fn near_misses() -> impl Iterator<Item = &'static (&'static str, Spoil)> {
-    NEAR_MISSES.iter().chain(UNREGISTERED)
+    NEAR_MISSES.iter().chain(UNREGISTERED).chain(MISCOUNTED)
 }
 
 const NEAR_MISSES: &[(&str, Spoil)] = &[
-    ("state 3", |t, r| one(r, t.n, |_| true).map(|p| t.states[p] = 3)),
+    ("state 3", |t, r| {
+        one(r, t.n, |_| true).map(|p| t.states[p] = 3)?;
+        recount(t);
+        Some(())
+    }),
     ("a free piece with a link", |t, r| {
         let (p, q) = (in_state(r, t, FREE)?, one(r, t.n, |_| true)?);
         t.links[4 * p + r.below(4)] = q as u16;
+        recount(t);
         Some(())
     }),
     ("a free piece with a leader", |t, r| in_state(r, t, FREE).map(|p| t.leaders[p] = p as u16)),
@@ -61,6 +67,7 @@ const NEAR_MISSES: &[(&str, Spoil)] = &[
     ("a link of N or more", |t, r| {
         let p = one(r, t.n, |p| t.states[p] != FREE)?;
         t.links[4 * p + r.below(4)] = r.pick(&[t.n as u16, t.n as u16 + 1, 65_534]);
+        recount(t);
         Some(())
     }),
     ("a draft's link to a free piece", |t, r| {
@@ -76,7 +83,9 @@ const NEAR_MISSES: &[(&str, Spoil)] = &[
     }),
     ("a frozen piece's link to a draft", |t, r| {
         let (p, q) = (in_state(r, t, FROZEN)?, in_state(r, t, DRAFT)?);
-        link(t, p, q)
+        link(t, p, q)?;
+        recount(t);
+        Some(())
     }),
     ("a leader that is a member but not the lowest", |t, r| {
         let p = led(r, t)?;

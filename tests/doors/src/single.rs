@@ -31,6 +31,9 @@ pub fn single(
     {
         each(Tables { register: with(&tables.register, entry, value), ..tables.clone() })?;
     }
+    for (entry, value) in pairs(tables.into.len(), &[0, 1, 2, 3, 4, 4_092, 65_535]) {
+        each(Tables { into: with(&tables.into, entry, value), ..tables.clone() })?;
+    }
     Ok(())
 }
 

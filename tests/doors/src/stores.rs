@@ -8,17 +8,18 @@ use independent::register::{area, Line};
 use independent::sound::leaders_and_counts;
 use independent::tables::{Tables, DRAFT, FROZEN, LINES, SEATS};
 
-/// Holds, leaders and counts become what the rules define for the states, links and register;
-/// lines that name no piece of the store are passed over.
+/// Holds, leaders, counts and the links into drafts become what the rules define for the states,
+/// links and register; lines that name no piece of the store are passed over.
 pub fn define(tables: &mut Tables) {
     let mut pieces = Pieces::of(&tables.lend().0);
     pieces.register.retain(|line| usize::from(line.piece) < tables.n);
     tables.holds = pieces.holds().iter().map(|&holds| holds.min(65_535) as u16).collect();
     (tables.leaders, tables.counts) = leaders_and_counts(&pieces);
+    tables.into = pieces.links_into();
 }
 
 /// The tables of these pieces, with soiled list and work.
-fn tables_of(random: &mut Random, pieces: Pieces) -> Tables {
+pub fn tables_of(random: &mut Random, pieces: Pieces) -> Tables {
     let mut tables = empty(random, pieces.n());
     tables.register = area(&pieces.register);
     (tables.states, tables.links) = (pieces.states, pieces.links.concat());

@@ -33,7 +33,7 @@ fn refused(refusal: Refusal) -> Answer {
     Answer { refusal: refusal as u8, value: NONE, freed: 0 }
 }
 
-/// Writes the pieces, their leaders, holds and counts into the tables.
+/// Writes the pieces, their leaders, holds and counts and the links into drafts to the tables.
 fn write(pieces: &Pieces, store: &mut Store) {
     let (leaders, counts) = leaders_and_counts(pieces);
     let holds: Vec<u16> = pieces.holds().iter().map(|&holds| holds as u16).collect();
@@ -43,6 +43,7 @@ fn write(pieces: &Pieces, store: &mut Store) {
     store.holds.copy_from_slice(&holds);
     store.counts.copy_from_slice(&counts);
     store.register.copy_from_slice(&area(&pieces.register));
+    store.into.copy_from_slice(&pieces.links_into());
 }
 
 /// The store's pieces if it has its sizes and is sound; clears the first 8N entries of work.

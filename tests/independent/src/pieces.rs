@@ -1,4 +1,4 @@
-//! Reach, group, leader, count and kept, as the rulebook defines them.
+//! Reach, group, leader, count, kept and the links into drafts, as the rulebook defines them.
 
 use crate::register::{used, Line};
 use crate::tables::{Store, DRAFT, FREE, FROZEN, LINKS, NONE};
@@ -115,6 +115,16 @@ impl Pieces {
         let held: u32 = group.iter().map(|&q| holds[q]).sum();
         let outside = |q: &usize| namers[*q].iter().filter(|&&p| !inside[p]).count() as u32;
         held + group.iter().map(outside).sum::<u32>()
+    }
+
+    /// The links into each draft: the link places of other pieces that name it; 0 for all else.
+    pub fn links_into(&self) -> Vec<u16> {
+        let mut into = vec![0; self.n()];
+        for p in self.in_state(DRAFT) {
+            let others = (0..self.n()).filter(|&q| q != p);
+            into[p] = others.flat_map(|q| self.named(q)).filter(|&named| named == p).count() as u16;
+        }
+        into
     }
 
     /// What is kept: reached from a draft, or from a frozen piece with a hold.

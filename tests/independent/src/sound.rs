@@ -53,7 +53,9 @@ pub fn sound(store: &Store) -> Option<Pieces> {
     let summed =
         pieces.holds().iter().zip(store.holds.iter()).all(|(&sum, &p)| sum == u32::from(p));
     let (leaders, counts) = leaders_and_counts(&pieces);
+    let linked = pieces.links_into() == store.into;
     let kept = pieces.kept();
     let all_kept = pieces.in_state(FROZEN).all(|p| kept[p]);
-    (summed && leaders == store.leaders && counts == store.counts && all_kept).then_some(pieces)
+    let (led, counted) = (leaders == store.leaders, counts == store.counts);
+    (summed && led && counted && linked && all_kept).then_some(pieces)
 }

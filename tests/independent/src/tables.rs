@@ -44,7 +44,7 @@ pub enum Refusal {
     Room = 11,
 }
 
-/// A store as it is lent to a call: its capacity and its six areas.
+/// A store as it is lent to a call: its capacity and its seven areas.
 pub struct Store<'a> {
     pub n: usize,
     pub states: &'a mut [u8],
@@ -53,6 +53,7 @@ pub struct Store<'a> {
     pub holds: &'a mut [u16],
     pub counts: &'a mut [u32],
     pub register: &'a mut [u16],
+    pub into: &'a mut [u16],
 }
 
 impl Store<'_> {
@@ -65,10 +66,11 @@ impl Store<'_> {
             && self.holds.len() == self.n
             && self.counts.len() == self.n
             && self.register.len() == LINE * LINES
+            && self.into.len() == self.n
     }
 }
 
-/// All eight areas, owned by whoever lends them.
+/// All nine areas, owned by whoever lends them.
 #[derive(Clone, Debug, PartialEq, Eq)]
 pub struct Tables {
     pub n: usize,
@@ -78,6 +80,7 @@ pub struct Tables {
     pub holds: Vec<u16>,
     pub counts: Vec<u32>,
     pub register: Vec<u16>,
+    pub into: Vec<u16>,
     pub list: Vec<u16>,
     pub work: Vec<u32>,
 }
@@ -93,6 +96,7 @@ impl Tables {
             holds: vec![0; n],
             counts: vec![0; n],
             register: vec![0; LINE * LINES],
+            into: vec![0; n],
             list: vec![0; n],
             work: vec![0; 8 * n],
         }
@@ -108,6 +112,7 @@ impl Tables {
             holds: &mut self.holds,
             counts: &mut self.counts,
             register: &mut self.register,
+            into: &mut self.into,
         };
         (store, &mut self.list, &mut self.work)
     }

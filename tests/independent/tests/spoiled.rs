@@ -133,6 +133,9 @@ fn wrong_sizes_change_nothing() {
         ("register short", |t| t.register.truncate(LINE * LINES - 1)),
         ("register long", |t| t.register.push(0)),
         ("register empty", |t| t.register.clear()),
+        ("into short", |t| t.into.truncate(3)),
+        ("into long", |t| t.into.push(0)),
+        ("into empty", |t| t.into.clear()),
         ("list short", |t| t.list.truncate(3)),
         ("work short", |t| t.work.truncate(31)),
     ];
@@ -153,9 +156,10 @@ fn look_and_check_take_no_list_and_start_takes_no_work() {
     let (store, _, work) = tables.lend();
     assert_eq!(calls::look(&store, work, 2).seen.count, 4);
     tables.work.clear();
+    tables.into.fill(9);
     assert_eq!(calls::start(&mut tables.lend().0), Answer { refusal: 0, value: NONE, freed: 0 });
     assert_eq!((&tables.states, &tables.links), (&vec![0; 4], &vec![NONE; 16]));
-    assert_eq!(tables.register, vec![0; LINE * LINES]);
+    assert_eq!((tables.register, tables.into), (vec![0; LINE * LINES], vec![0; 4]));
 }
 
 #[test]

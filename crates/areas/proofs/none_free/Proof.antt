@@ -7,36 +7,44 @@ use Rattle.areas.proofs.none_free.Statement.{statement}
 use Rattle.areas.proofs.none_free.Tie as tie
 
 abbrev Inv-loop : tie.InvT-loop
-Inv-loop n states p₀ p = (p ≤ n) × NoneFree states p
+Inv-loop n states from p₀ p = (p ≤ n) × NoneFree states p
 
 abbrev μ-loop : tie.MeasureT-loop
-μ-loop n states p₀ p = n - p
+μ-loop n states from p₀ p = n - p
 
 loop-holds : tie.Need-loop-holds Inv-loop μ-loop
-loop-holds c = (omega arith, λ q l. absurd (omega arith))
+loop-holds c = let given = c .before .pre in (given .1, given .2)
 
 sub-loop : tie.Need-sub-loop Inv-loop μ-loop
 sub-loop c = c .loop .inv .0
 
-shows-requires : tie.Need-shows-requires Inv-loop μ-loop
-shows-requires c κs = omega (arith, c .before .before .before .pre, c .before .loop .inv .0, c .loop-test .taken)
+shared-slice-read-first : tie.Need-shared-slice-read-first Inv-loop μ-loop
+shared-slice-read-first c = omega (arith, c .before .before .before .before .pre .0, c .before .before .loop .inv .0, c .before .loop-test .taken)
 
 returns : tie.Need-returns Inv-loop μ-loop
 returns c = c .before .before .before .loop .inv
 
+shows-requires : tie.Need-shows-requires Inv-loop μ-loop
+shows-requires c κs = omega (arith, c .before .before .before .before .before .pre .0, c .before .before .before .loop .inv .0, c .before .before .loop-test .taken)
+
+returns-2 : tie.Need-returns-2 Inv-loop μ-loop
+returns-2 c = c .before .before .before .before .before .loop .inv
+
 add-p : tie.Need-add-p Inv-loop μ-loop
-add-p c = omega (arith, c .before .before .before .before .before .fits .n, c .before .before .before .loop .inv .0, c .before .before .loop-test .taken)
+add-p c =
+    let start = c .before .before .before .before .before .before .before in
+    omega (arith, start .fits .n, c .before .before .before .before .before .loop .inv .0, c .before .before .before .before .loop-test .taken)
 
 loop-less : tie.Need-loop-less Inv-loop μ-loop
-loop-less c = omega (arith, c .before .before .before .loop .inv .0, c .before .before .loop-test .taken)
+loop-less c = omega (arith, c .before .before .before .before .before .loop .inv .0, c .before .before .before .before .loop-test .taken)
 
 loop-again : tie.Need-loop-again Inv-loop μ-loop
 loop-again c =
-    let loop = c .before .before .before .loop in
-    (omega (arith, loop .inv .0, c .before .before .loop-test .taken), block-past (loop .inv .1) (c .before .shows .ensures) (c .if1 .left))
+    let loop = c .before .before .before .before .before .loop in
+    (omega (arith, loop .inv .0, c .before .before .before .before .loop-test .taken), block-past (loop .inv .1) (c .before .shows .ensures) (c .if2 .left))
 
-returns-2 : tie.Need-returns-2 Inv-loop μ-loop
-returns-2 c = c .before .loop .inv
+returns-3 : tie.Need-returns-3 Inv-loop μ-loop
+returns-3 c = c .before .loop .inv
 
 pub none-free-spec : {M : Type 1} → statement M
 none-free-spec =
@@ -46,9 +54,11 @@ none-free-spec =
     μ-loop
     loop-holds
     sub-loop
-    shows-requires
+    shared-slice-read-first
     returns
+    shows-requires
+    returns-2
     add-p
     loop-less
     loop-again
-    returns-2)
+    returns-3)

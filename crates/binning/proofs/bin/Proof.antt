@@ -1,13 +1,13 @@
 -- `binning::bin` meets its contract. Each refusal is the first row that applies; otherwise the work's promise is the command's.
 -- Assumes nothing.
 use native.Mathlib.Omega.{arith}
-use mathlib.Core.Path.{sym, _∙_}
 use borrow.Author.Needs.{needs}
 use Rattle.rules.specs.Calls.{refusedBy}
 use Rattle.naming.specs.Told.{piece-wrong, piece-named}
 use Rattle.naming.specs.Names.{wrong-did}
 use Rattle.editing.specs.Names.{bin-names, state-refused}
-use Rattle.editing.specs.Bin.{bin-linked}
+use Rattle.editing.specs.Bin.{bin-linked, bin-alone}
+use Rattle.editing.specs.Into.{bin-forgetting, bin-into}
 use Rattle.binning.proofs.bin.Statement.{statement}
 use Rattle.binning.proofs.bin.Tie as tie
 
@@ -16,7 +16,10 @@ piece-requires c κs = let lent : tie.Start = search in lent .pre .0 .sized .bas
 
 returns : tie.Need-returns
 unfolding refusedBy
-returns c = let asked : tie.After-piece = search in wrong-did (bin-names .first) (piece-wrong (asked .piece .ensures) (c .before .refusal .given .1))
+returns c =
+    let lent : tie.Start = search in
+    let asked : tie.After-piece = search in
+    (wrong-did (bin-names .first) (piece-wrong (asked .piece .ensures) (c .before .refusal .given .1)), lent .pre .1)
 
 slice-read-if1 : tie.Need-slice-read-if1
 slice-read-if1 c =
@@ -30,42 +33,74 @@ unfolding refusedBy
 returns-2 c =
     let asked : tie.After-piece = search in
     let right : tie.After-enum-told = search in
-    state-refused bin-names (piece-named (asked .piece .ensures) (right .enum-told .given .1) .right) (c .if1 .taken)
-
-is-linked-requires : tie.Need-is-linked-requires
-is-linked-requires c κs =
     let lent : tie.Start = search in
-    let asked : tie.After-piece = search in
-    let right : tie.After-enum-told = search in
-    (lent .pre .0 .sized .base .links, lent .pre .0 .sized .base .most, piece-named (asked .piece .ensures) (right .enum-told .given .1) .below)
+    (state-refused bin-names (piece-named (asked .piece .ensures) (right .enum-told .given .1) .right) (c .if1 .taken), lent .pre .1)
+
+mul-if2 : tie.Need-mul-if2
+mul-if2 c =
+    let draft = c in
+    let right = draft .before .before in
+    let asked = right .before .before in
+    let lent = asked .before .before .before .before .before .before .before .before .before in
+    let named = piece-named (asked .piece .ensures) (right .enum-told .given .1) in
+    omega (arith, named .below, lent .pre .0 .sized .base .most)
+
+slice-read-if2 : tie.Need-slice-read-if2
+slice-read-if2 c =
+    let draft = c .before in
+    let right = draft .before .before in
+    let asked = right .before .before in
+    let lent = asked .before .before .before .before .before .before .before .before .before in
+    let named = piece-named (asked .piece .ensures) (right .enum-told .given .1) in
+    omega (arith, named .below, lent .pre .1 .size)
 
 returns-3 : tie.Need-returns-3
 returns-3 c =
-    let asked : tie.After-piece = search in
-    let right : tie.After-enum-told = search in
-    let draft : tie.Else1 = search in
-    bin-linked (piece-named (asked .piece .ensures) (right .enum-told .given .1)) (draft .if1 .left) (sym (c .if2 .taken) ∙ c .before .is-linked .ensures)
+    let draft = c .before .before in
+    let right = draft .before .before in
+    let asked = right .before .before in
+    let lent = asked .before .before .before .before .before .before .before .before .before in
+    let named = piece-named (asked .piece .ensures) (right .enum-told .given .1) in
+    (bin-linked (lent .pre .0) named (draft .if1 .left) (lent .pre .1) (c .if2 .taken), lent .pre .1)
+
+forget-requires : tie.Need-forget-requires
+forget-requires c κs =
+    let draft = c .before .before .before .before .before in
+    let right = draft .before .before in
+    let asked = right .before .before in
+    let lent = asked .before .before .before .before .before .before .before .before .before in
+    let named = piece-named (asked .piece .ensures) (right .enum-told .given .1) in
+    bin-forgetting (lent .pre .0) named (lent .pre .1)
 
 bin-draft-requires : tie.Need-bin-draft-requires
 bin-draft-requires c κs =
-    let lent : tie.Start = search in
-    let asked : tie.After-piece = search in
-    let right : tie.After-enum-told = search in
-    let draft : tie.Else1 = search in
-    let alone : tie.Else2 = search in
-    record {
-      ready = lent .pre .0;
-      room = lent .pre .1;
-      named = piece-named (asked .piece .ensures) (right .enum-told .given .1);
-      other = draft .if1 .left;
-      alone = sym (alone .if2 .left) ∙ alone .before .is-linked .ensures;
-    }
+    let alone = c .before .before .before .before .before .before .before .before .before .before .before in
+    let draft = alone .before .before in
+    let right = draft .before .before in
+    let asked = right .before .before in
+    let lent = asked .before .before .before .before .before .before .before .before .before in
+    let named = piece-named (asked .piece .ensures) (right .enum-told .given .1) in
+    record { ready = lent .pre .0; room = lent .pre .2; named = named; other = draft .if1 .left; alone = bin-alone (lent .pre .0) named (draft .if1 .left) (lent .pre .1) (alone .if2 .left) }
 
 cast-freed : tie.Need-cast-freed
-cast-freed c = let done : tie.After-bin-draft = search in omega (arith, done .bin-draft .ensures .few)
+cast-freed c = omega (arith, c .before .before .before .before .before .before .before .before .before .before .bin-draft .ensures .few)
 
 returns-4 : tie.Need-returns-4
-returns-4 c = let done : tie.After-bin-draft = search in done .bin-draft .ensures .did
+returns-4 c =
+    let done = c .before .before .before .before .before .before .before .before .before .before in
+    let forgotten = done .before .before .before .before .before .before .before .before in
+    let alone = forgotten .before .before .before .before in
+    let draft = alone .before .before in
+    let right = draft .before .before in
+    let asked = right .before .before in
+    let lent = asked .before .before .before .before .before .before .before .before .before in
+    let named = piece-named (asked .piece .ensures) (right .enum-told .given .1) in
+    let did = done .bin-draft .ensures .did in (
+      did,
+      bin-into
+          (record { ready = lent .pre .0; room = lent .pre .2; named = named; other = draft .if1 .left; alone = bin-alone (lent .pre .0) named (draft .if1 .left) (lent .pre .1) (alone .if2 .left) })
+          (lent .pre .1) (alone .if2 .left) (forgotten .forget .ensures) did,
+    )
 
 pub bin-spec : {M : Type 1} → statement M
 bin-spec =
@@ -79,12 +114,14 @@ bin-spec =
     slice-read-if1
     (λ c. search needs)
     returns-2
-    is-linked-requires
-    (λ c. search needs)
+    mul-if2
+    slice-read-if2
     (λ c. search needs)
     returns-3
+    forget-requires
     bin-draft-requires
     cast-freed
+    (λ c. search needs)
     (λ c. search needs)
     (λ c. search needs)
     (λ c. search needs)

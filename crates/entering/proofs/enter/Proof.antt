@@ -10,7 +10,7 @@ mul-if3 c = omega (arith, sizes (c .before .if1 .left) (c .before .before .sized
 is-sound-requires : tie.Need-is-sound-requires
 is-sound-requires c κs =
     let z = sizes (c .before .before .before .if1 .left) (c .before .before .before .before .sized .ensures) in
-    (z .0, z .1 .tables, c .before .if3 .left)
+    (z .0, z .1 .tables, z .1 .into, c .before .if3 .left)
 
 agrees-requires : tie.Need-agrees-requires
 agrees-requires c κs =

@@ -1,71 +1,60 @@
--- `freezing::find` meets its contract: a lone draft is marked by itself, else the search marks. Assumes nothing.
+-- `freezing::find` meets its contract: p alone leads itself, else the search finds the leaders, once the queue is unmarked. Assumes nothing.
 use native.Mathlib.Omega.{arith}
-use lib.ListN.{length-set}
 use borrow.Author.Needs.{needs}
-use Rattle.paths.specs.Search.{finishedMark}
-use Rattle.freezing.specs.Lone.{found-alone, found-search}
+use Rattle.freezing.specs.Found.{found-alone, unmarkable, visitable, found-search}
 use Rattle.freezing.proofs.find.Statement.{statement}
 use Rattle.freezing.proofs.find.Tie as tie
 
-lone-requires : tie.Need-lone-requires
-lone-requires c κs = search needs
+cast-work : tie.Need-cast-work
+cast-work c = let given = c .before .before .before .before .pre in omega (arith, given .below, given .lent .most)
 
 mul-work : tie.Need-mul-work
-mul-work c = search needs
-
-slice-write-work : tie.Need-slice-write-work
-slice-write-work c = search needs
-
-cast-work : tie.Need-cast-work
-cast-work c = search needs
-
-mul-work-2 : tie.Need-mul-work-2
-mul-work-2 c = search needs
+mul-work c = let given = c .before .before .before .before .pre in omega (arith, given .below, given .lent .most)
 
 add-work : tie.Need-add-work
-add-work c = search needs
+add-work c = let given = c .before .before .before .before .pre in omega (arith, given .below, given .lent .most)
 
-mul-work-3 : tie.Need-mul-work-3
-mul-work-3 c = search needs
+mul-work-2 : tie.Need-mul-work-2
+mul-work-2 c = let given = c .before .before .before .before .pre in omega (arith, given .below, given .lent .most)
 
-slice-write-work-2 : tie.Need-slice-write-work-2
-slice-write-work-2 c =
-    let start = c .before .before .before .before .before in
-    let a = start .args in
-    let given = start .pre in
-    omega (arith, given .below, given .ready .lent .work-n, length-set (a .work .now) (a .p) finishedMark)
+slice-write-work : tie.Need-slice-write-work
+slice-write-work c = let given = c .before .before .before .before .pre in omega (arith, given .below, given .lent .work-n)
 
 same-length : tie.Need-same-length
 same-length c = search needs
 
 returns : tie.Need-returns
-returns c =
-    let start = c .before .before .before .before .before in
-    found-alone (start .pre) (c .before .lone .ensures (c .if1 .taken))
+returns c = found-alone (c .before .before .before .before .pre) (c .if1 .taken)
+
+unmark-requires : tie.Need-unmark-requires
+unmark-requires c κs = unmarkable (c .before .before .before .before .before .pre)
 
 visit-requires : tie.Need-visit-requires
-visit-requires c κs = search needs
+visit-requires c κs =
+    let unmarked = c .before .before .before in
+    visitable (unmarked .before .before .before .before .before .before .pre) (unmarked .unmark .ensures)
 
 same-length-2 : tie.Need-same-length-2
 same-length-2 c = search needs
 
 returns-2 : tie.Need-returns-2
-returns-2 c = found-search (c .before .before .visit .ensures)
+returns-2 c =
+    let visited = c .before .before in
+    let unmarked = visited .before .before .before .before in
+    found-search (unmarked .before .before .before .before .before .before .pre) (unmarked .unmark .ensures) (visited .visit .ensures)
 
 pub find-spec : {M : Type 1} → statement M
 find-spec =
     tie.close
     (tie.spec
-    lone-requires
-    mul-work
-    slice-write-work
     cast-work
-    mul-work-2
+    mul-work
     add-work
-    mul-work-3
-    slice-write-work-2
+    mul-work-2
+    slice-write-work
     same-length
     returns
+    unmark-requires
     visit-requires
     same-length-2
     returns-2)

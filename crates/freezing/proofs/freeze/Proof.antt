@@ -8,13 +8,16 @@ use Rattle.laws.specs.Seated.{freeze-adds, refused-seat, refused-tables}
 use Rattle.naming.specs.Told.{piece-wrong, piece-named}
 use Rattle.naming.specs.Names.{wrong-did}
 use Rattle.holding.specs.Acquired.{acquiring-of, few-held, room-told}
+use Rattle.into.specs.Stores.{with-into, into-ready, ready-by}
 use Rattle.freezing.specs.Again.{freeze-names, freeze-crowded, freeze-did, acquire-did}
 use Rattle.freezing.specs.Twice.{twice-did, wrong-itself}
 use Rattle.freezing.proofs.freeze.Statement.{statement}
 use Rattle.freezing.proofs.freeze.Tie as tie
 
 returns : tie.Need-returns
-returns c = (refused-seat (freeze-adds .seat) (c .if1 .taken), refl)
+returns c =
+    let lent : tie.Start = search in
+    (with-into (into-ready (lent .pre .0)) (into-ready (lent .pre .0)) (refused-seat (freeze-adds .seat) (c .if1 .taken)), refl)
 
 returns-2 : tie.Need-returns-2
 unfolding refusedBy
@@ -22,8 +25,9 @@ returns-2 c =
     let lent : tie.Start = search in
     let seated : tie.Else1 = search in
     let asked : tie.After-piece = search in (
-      refused-tables (freeze-adds .seat) (wrong-itself (lent .pre .0) (piece-wrong (asked .piece .ensures) (c .before .refusal .given .1))) (seated .if1 .left)
-          (wrong-did freeze-names (piece-wrong (asked .piece .ensures) (c .before .refusal .given .1))),
+      with-into (into-ready (lent .pre .0)) (into-ready (lent .pre .0))
+          (refused-tables (freeze-adds .seat) (wrong-itself (ready-by (lent .pre .0)) (piece-wrong (asked .piece .ensures) (c .before .refusal .given .1))) (seated .if1 .left)
+          (wrong-did freeze-names (piece-wrong (asked .piece .ensures) (c .before .refusal .given .1)))),
       refl,
     )
 
@@ -46,22 +50,28 @@ returns-3 c =
     let right = draft .before .before in
     let asked = right .before .before in
     let seated = asked .before .before in
-    let lent = seated .before .before .before .before .before .before .before .before in
-    (freeze-crowded (lent .pre .0) (seated .if1 .left) (piece-named (asked .piece .ensures) (right .enum-told .given .1)) (draft .if2 .taken) (c .if3 .taken) (c .before .has-room .ensures), refl)
+    let lent = seated .before .before .before .before .before .before .before .before .before in
+    let x = into-ready (lent .pre .0) in (
+      with-into x x (freeze-crowded (ready-by (lent .pre .0)) (seated .if1 .left) (piece-named (asked .piece .ensures) (right .enum-told .given .1)) (draft .if2 .taken) (c .if3 .taken)
+          (c .before .has-room .ensures)),
+      refl,
+    )
 
 freeze-draft-requires : tie.Need-freeze-draft-requires
 freeze-draft-requires c κs =
-    let draft = c .before .before .before .before .before .before .before .before .before .before in
+    let draft = c .before .before .before .before .before .before .before .before .before .before .before in
     let right = draft .before .before in
     let asked = right .before .before in
-    let lent = asked .before .before .before .before .before .before .before .before .before .before in
-    record { ready = ready-tables (lent .pre .0); clear = lent .pre .1; below = piece-named (asked .piece .ensures) (right .enum-told .given .1) .below; is = draft .if2 .taken }
+    let lent = asked .before .before .before .before .before .before .before .before .before .before .before in (
+      record { ready = ready-tables (lent .pre .0); wide = lent .pre .1; below = piece-named (asked .piece .ensures) (right .enum-told .given .1) .below; is = draft .if2 .taken },
+      into-ready (lent .pre .0),
+    )
 
 more-requires : tie.Need-more-requires
 more-requires c κs =
-    let roomy = c .before .before .before .before .before .before .before .before .before .before .before .before .before .before .before .before .before in
+    let roomy = c .before .before .before .before .before .before .before .before .before .before .before .before .before .before .before .before .before .before .before .before in
     let found = roomy .before .before .before in
-    let lent = found .before .before .before .before .before .before .before .before .before .before .before .before .before .before .before .before in
+    let lent = found .before .before .before .before .before .before .before .before .before .before .before .before .before .before .before .before .before in
     let register = lent .pre .0 .sound .register in (
       register .ordered,
       found .find .ensures,
@@ -72,16 +82,17 @@ more-requires c κs =
 returns-4 : tie.Need-returns-4
 returns-4 c =
     let noted = c .before .before .before in
-    let done = noted .before .before .before .before .before .before .before .before .before .before .before .before in
-    let roomy = done .before .before .before .before .before .before in
+    let done = noted .before .before .before .before .before .before .before .before .before .before .before .before .before .before in
+    let roomy = done .before .before .before .before .before .before .before in
     let draft = roomy .before .before .before .before .before in
     let right = draft .before .before in
     let asked = right .before .before in
     let seated = asked .before .before in
-    let lent = seated .before .before .before .before .before .before .before .before in (
-      freeze-did (lent .pre .0) (seated .if1 .left) (piece-named (asked .piece .ensures) (right .enum-told .given .1)) (draft .if2 .taken) (roomy .if3 .left) (roomy .before .has-room .ensures)
-          (done .freeze-draft .ensures .0) (noted .more .ensures) (c .fresh .ensures),
-      done .freeze-draft .ensures .1,
+    let lent = seated .before .before .before .before .before .before .before .before .before in (
+      with-into (into-ready (lent .pre .0)) (done .freeze-draft .ensures .1 .0)
+          (freeze-did (ready-by (lent .pre .0)) (seated .if1 .left) (piece-named (asked .piece .ensures) (right .enum-told .given .1)) (draft .if2 .taken) (roomy .if3 .left)
+          (roomy .before .has-room .ensures) (done .freeze-draft .ensures .0) (noted .more .ensures) (c .fresh .ensures)),
+      done .freeze-draft .ensures .1 .1,
     )
 
 number-at-requires : tie.Need-number-at-requires
@@ -90,11 +101,12 @@ number-at-requires c κs = let lent : tie.Start = search in (lent .pre .0 .sound
 returns-5 : tie.Need-returns-5
 returns-5 c =
     let own = c .before in
-    let lent = own .before .before .before .before .before .before .before .before .before .before .before .before .before .before .before .before .before .before .before in
-    (twice-did (lent .pre .0) (λ e. own .if4 .taken (own .before .number-at .ensures ∙ e)) (c .fresh2 .ensures), refl)
+    let lent = own .before .before .before .before .before .before .before .before .before .before .before .before .before .before .before .before .before .before .before .before in
+    let x = into-ready (lent .pre .0) in
+    (with-into x x (twice-did (ready-by (lent .pre .0)) (λ e. own .if4 .taken (own .before .number-at .ensures ∙ e)) (c .fresh2 .ensures)), refl)
 
 acquire-requires : tie.Need-acquire-requires
-acquire-requires c κs = let lent : tie.Start = search in acquiring-of (lent .pre .0)
+acquire-requires c κs = let lent : tie.Start = search in acquiring-of (ready-by (lent .pre .0))
 
 returns-6 : tie.Need-returns-6
 returns-6 c =
@@ -104,9 +116,10 @@ returns-6 c =
     let right = other .before .before in
     let asked = right .before .before in
     let seated = asked .before .before in
-    let lent = seated .before .before .before .before .before .before .before .before in (
-      acquire-did (lent .pre .0) (seated .if1 .left) (piece-named (asked .piece .ensures) (right .enum-told .given .1)) (other .if2 .left)
-          (sym (own .before .number-at .ensures) ∙ own .if4 .left) (done .acquire .ensures .did (lent .pre .0)),
+    let lent = seated .before .before .before .before .before .before .before .before .before in
+    let x = into-ready (lent .pre .0) in (
+      with-into x x (acquire-did (ready-by (lent .pre .0)) (seated .if1 .left) (piece-named (asked .piece .ensures) (right .enum-told .given .1)) (other .if2 .left)
+          (sym (own .before .number-at .ensures) ∙ own .if4 .left) (done .acquire .ensures .did (ready-by (lent .pre .0)))),
       refl,
     )
 
@@ -129,6 +142,7 @@ freeze-spec =
     freeze-draft-requires
     more-requires
     (λ c κs. search needs)
+    (λ c. search needs)
     (λ c. search needs)
     (λ c. search needs)
     (λ c. search needs)

@@ -46,7 +46,7 @@ loop-again c =
     let of-class = did .before .before .before .before .before in
     let turn = of-class .before .before in
     let looped = turn .before in
-    trying-more (looped .loop .inv) (turn .loop-test .taken) (of-class .if1 .taken) (did .search .kept .1 .1 .1 .1 .0) (did .search .ensures)
+    trying-more (looped .loop .inv) (did .search .ensures) (turn .loop-test .taken) (of-class .if1 .taken) (did .search .kept .1 .1 .1 .1 .0)
 
 loop-less-2 : tie.Need-loop-less-2 Inv-loop μ-loop
 loop-less-2 c = omega (arith, c .before .before .before .before .before .loop-test .taken)
@@ -58,7 +58,7 @@ loop-again-2 c =
     let looped = turn .before in
     let trying = looped .loop .inv in
     let started = trying-start trying (turn .loop-test .taken) (of-class .if1 .taken) in
-    trying-more trying (turn .loop-test .taken) (of-class .if1 .taken) refl (already started (c .before .get .ensures) (c .if2 .left))
+    trying-more trying (already started (c .before .get .ensures) (c .if2 .left)) (turn .loop-test .taken) (of-class .if1 .taken) refl
 
 loop-less-3 : tie.Need-loop-less-3 Inv-loop μ-loop
 loop-less-3 c = omega (arith, c .before .before .loop-test .taken)

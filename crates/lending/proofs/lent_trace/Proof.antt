@@ -106,6 +106,7 @@ lent-trace-spec =
     (λ c. search needs)
     (λ c. search needs)
     (λ c. search needs)
+    (λ c. search needs)
     pour-all-requires
     enum-known-place
     enum-told

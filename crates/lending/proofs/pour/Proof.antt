@@ -9,14 +9,14 @@ use Rattle.lending.proofs.pour.Statement.{statement}
 use Rattle.lending.proofs.pour.Tie as tie
 
 abbrev Inv-loop : tie.InvT-loop
-Inv-loop text n states₀ links₀ leaders₀ holds₀ counts₀ register₀ list₀ work₀ from out₀ room₀ start at₀ size₀ low₀ states links leaders holds counts register list work out
-    room at size low =
-    Pouring n (storeOf n states₀ links₀ leaders₀ holds₀ counts₀ register₀) text room₀ start (storeOf n states links leaders holds counts register) list work room at size low
+Inv-loop text n states₀ links₀ leaders₀ holds₀ counts₀ register₀ into₀ list₀ work₀ from out₀ room₀ start at₀ size₀ low₀
+    states links leaders holds counts register into list work out room at size low =
+    Pouring n (storeOf n states₀ links₀ leaders₀ holds₀ counts₀ register₀ into₀) text room₀ start (storeOf n states links leaders holds counts register into) list work room at size low
     × ((length list ≡ length list₀) × (length work ≡ length work₀) × (length out ≡ length out₀))
 
 abbrev μ-loop : tie.MeasureT-loop
-μ-loop text n states₀ links₀ leaders₀ holds₀ counts₀ register₀ list₀ work₀ from out₀ room₀ start at₀ size₀ low₀ states links leaders holds counts register list work out
-    room at size low =
+μ-loop text n states₀ links₀ leaders₀ holds₀ counts₀ register₀ into₀ list₀ work₀ from out₀ room₀ start at₀ size₀ low₀
+    states links leaders holds counts register into list work out room at size low =
     length text - at
 
 -- places: what was fed, on the way to each need behind it; the turn of the loop before it, and the start
@@ -77,8 +77,8 @@ add-size : tie.Need-add-size Inv-loop μ-loop
 unfolding looped asked
 add-size c =
     let copied : tie.After-copy Inv-loop μ-loop = search in
-    let fits : tie.Else1 Inv-loop μ-loop = search in
-    let fed : tie.After-feed Inv-loop μ-loop = search in
+    let fits = copied .before .before .before in
+    let fed = fits .before .before .before .before .before .before .before .before .before .before .before .before .before .before .before .before .before .before .before .before .before in
     omega (arith, fits .if1 .left, looped fed .loop .inv .0 .holds .place, looped fed .loop .inv .0 .same, asked (looped fed) .good)
 
 add-at : tie.Need-add-at Inv-loop μ-loop
@@ -127,12 +127,14 @@ pour-spec =
     (λ c. unfold full looped in (omega (arith, full c .feed .kept, looped (full c) .loop .inv)))
     (λ c. unfold full looped in (omega (arith, full c .feed .kept, looped (full c) .loop .inv)))
     (λ c. unfold full looped in (omega (arith, full c .feed .kept, looped (full c) .loop .inv)))
+    (λ c. unfold full looped in (omega (arith, full c .feed .kept, looped (full c) .loop .inv)))
     returns
     copy-requires
     add-size
     add-at
     loop-less
     loop-again
+    (λ c. omega (arith, c .before .loop .inv))
     (λ c. omega (arith, c .before .loop .inv))
     (λ c. omega (arith, c .before .loop .inv))
     (λ c. omega (arith, c .before .loop .inv))

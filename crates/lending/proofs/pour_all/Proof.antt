@@ -119,6 +119,7 @@ pour-all-spec =
     (λ c. unfold full in (omega (arith, full c .pour .kept)))
     (λ c. unfold full in (omega (arith, full c .pour .kept)))
     (λ c. unfold full in (omega (arith, full c .pour .kept)))
+    (λ c. unfold full in (omega (arith, full c .pour .kept)))
     returns
     sub-end-line
     part-end-line-start
@@ -128,6 +129,7 @@ pour-all-spec =
     array-share-prefix-last
     slice-aggregate-pour-2
     pour-requires-2
+    (λ c. unfold first in (omega (arith, poured (c .before) .pour2 .kept, first (c .before) .pour .kept)))
     (λ c. unfold first in (omega (arith, poured (c .before) .pour2 .kept, first (c .before) .pour .kept)))
     (λ c. unfold first in (omega (arith, poured (c .before) .pour2 .kept, first (c .before) .pour .kept)))
     (λ c. unfold first in (omega (arith, poured (c .before) .pour2 .kept, first (c .before) .pour .kept)))

@@ -1,6 +1,5 @@
 -- A piece with all places explored that starts no block: back to its parent.
 use mathlib.Core.Path.{_≡_, sym, ap, subst}
-use mathlib.Core.List.{List}
 use mathlib.Core.Logic.{⊎-elim}
 use Prim.Native.Nat.{ℕ, pred, _≤_, _<_}
 use native.Mathlib.Omega.{arith}
@@ -11,7 +10,7 @@ use Rattle.paths.specs.Ground.{Ground}
 use Rattle.paths.specs.Search.{Standing, Regions, Invariant}
 use Rattle.paths.specs.Runs.{back-to}
 
-module _ {g : Ground} {old : List ℕ} {root : ℕ} {s : Regions} {size blocks stand : ℕ} (I : Invariant g old root s size blocks stand) (live : 0 < size)
+module _ {g : Ground} {old : Regions} {root : ℕ} {s : Regions} {size blocks stand : ℕ} (I : Invariant g old root s size blocks stand) (live : 0 < size)
     (full : s .next ! (s .stack ! stand) ≡ 4) (inner : s .starts ! pred blocks ≡ stand → ⊥) where
   L : Standing g (s .next) (s .stack) (s .starts) root size blocks stand
   L = I .live live

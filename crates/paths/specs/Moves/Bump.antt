@@ -1,20 +1,19 @@
 -- A place is explored: its piece's counter goes up by one.
 use mathlib.Core.Path.{_≡_, sym, _∙_, ap, subst}
-use mathlib.Core.List.{List}
-use mathlib.Core.Logic.{⊎-elim}
+use mathlib.Core.Logic.{inl, inr, ⊎-elim}
 use Prim.Native.Nat.{ℕ, suc, _≤_, _<_}
 use native.Mathlib.Omega.{arith}
 use lib.ListN.{length, set, length-set}
 use lib.Seq.{getD-set-other}
 use Rattle.rules.specs.Lists.{_!_}
 use Rattle.laws.specs.Numbers.{lt-or, set-cases}
-use Rattle.paths.specs.Ground.{Ground}
+use Rattle.paths.specs.Ground.{Ground, Reached}
 use Rattle.paths.specs.Search.{Regions, Invariant}
 
 abbrev pub bumped : Regions → ℕ → Regions
 bumped s v = record { marks = s .marks; next = set (s .next) v (suc (s .next ! v)); leaders = s .leaders; stack = s .stack; starts = s .starts; parents = s .parents }
 
-module _ {g : Ground} {old : List ℕ} {root : ℕ} {s : Regions} {size blocks stand : ℕ} (I : Invariant g old root s size blocks stand) (q : ℕ) (q-lt : q < size)
+module _ {g : Ground} {old : Regions} {root : ℕ} {s : Regions} {size blocks stand : ℕ} (I : Invariant g old root s size blocks stand) (q : ℕ) (q-lt : q < size)
     (more : s .next ! (s .stack ! q) < 4)
     (good : g .at (s .stack ! q) (s .next ! (s .stack ! q)) < g .n → g .state (g .at (s .stack ! q) (s .next ! (s .stack ! q))) ≡ g .class
     → (i : ℕ) → i < blocks → s .starts ! i ≤ q → s .starts ! i < s .marks ! (g .at (s .stack ! q) (s .next ! (s .stack ! q)))) where
@@ -72,15 +71,25 @@ module _ {g : Ground} {old : List ℕ} {root : ℕ} {s : Regions} {size blocks s
         back = I .base .trail .back;
       };
       explored = record {
-        four = λ v lt.
-            ⊎-elim (λ w. omega (arith, w .1)) (λ w. omega (arith, w .1, I .base .explored .four v lt))
+        four = λ v lt r.
+            ⊎-elim (λ w. omega (arith, w .1)) (λ w. omega (arith, w .1, I .base .explored .four v lt r))
             (set-cases (s .next) (s .stack ! q) (suc (s .next ! (s .stack ! q))) v 0 v-lt);
-        fresh = λ v lt z.
+        fresh = λ v lt r z.
             getD-set-other (s .next) (s .stack ! q) v (suc (s .next ! (s .stack ! q))) 0
-            (λ e. omega (arith, I .base .stack .stack-marks q q-lt, ap (λ (u : ℕ). s .marks ! u) e)) ∙ I .base .explored .fresh v lt z;
+            (λ e. omega (arith, I .base .stack .stack-marks q q-lt, ap (λ (u : ℕ). s .marks ! u) e)) ∙ I .base .explored .fresh v lt r z;
         seen = seen;
       };
       ends = I .base .ends;
+      others = record {
+        same = λ v lt.
+            ⊎-elim
+            (λ r. inl r)
+            (λ e. ⊎-elim
+            (λ w. inl (subst (λ (x : ℕ). Reached g root x) (sym (w .0)) (I .base .stack .stack-in q q-lt)))
+            (λ w. inr (e .0, w .1 ∙ e .1, e .2))
+            (set-cases (s .next) (s .stack ! q) (suc (s .next ! (s .stack ! q))) v 0 v-lt))
+            (I .base .others .same v lt);
+      };
     };
     live = λ pos.
         let L = I .live pos in

@@ -1,6 +1,5 @@
 -- Blocks are merged: the block starts above a position are dropped.
 use mathlib.Core.Path.{subst}
-use mathlib.Core.List.{List}
 use mathlib.Core.Logic.{⊎-elim}
 use Prim.Native.Nat.{ℕ, suc, pred, _≤_, _<_}
 use native.Mathlib.Omega.{arith}
@@ -11,7 +10,7 @@ use Rattle.paths.specs.Ground.{Ground, Way}
 use Rattle.paths.specs.Search.{Trail, Regions, Invariant}
 use Rattle.paths.specs.Runs.{up-to}
 
-module _ {g : Ground} {old : List ℕ} {root : ℕ} {s : Regions} {size blocks stand : ℕ} (I : Invariant g old root s size blocks stand) (live : 0 < size) (t : ℕ) (t-lt : t < size)
+module _ {g : Ground} {old : Regions} {root : ℕ} {s : Regions} {size blocks stand : ℕ} (I : Invariant g old root s size blocks stand) (live : 0 < size) (t : ℕ) (t-lt : t < size)
     (hit : Way g (s .stack ! stand) (s .stack ! t)) (b : ℕ) (b-pos : 0 < b) (b-le : b ≤ blocks) (below : s .starts ! pred b ≤ t)
     (above : (i : ℕ) → b ≤ i → i < blocks → t < s .starts ! i) where
   T : Trail g (s .next) (s .stack) (s .starts) (s .parents) size blocks
@@ -50,6 +49,7 @@ module _ {g : Ground} {old : List ℕ} {root : ℕ} {s : Regions} {size blocks s
         seen = λ p lt j u v w i x. I .base .explored .seen p lt j u v w i (omega arith);
       };
       ends = I .base .ends;
+      others = I .base .others;
     };
     live = λ pos.
         let L = I .live pos in

@@ -9,8 +9,8 @@ use Rattle.rules.specs.Reach.{here}
 use Rattle.rules.specs.Lists.{_!_}
 use Rattle.laws.specs.Words.{trans}
 use Rattle.laws.specs.Numbers.{eq-or, lt-or}
-use Rattle.paths.specs.Ground.{Ground, Way, Leads, OneWay, way-at}
-use Rattle.paths.specs.Search.{finishedMark, MarksClosed, sign, Stack, Starts, Trail, Explored, Ends, Standing, Regions, Invariant}
+use Rattle.paths.specs.Ground.{Ground, Way, Leads, OneWay, Reached, reached-next, way-at}
+use Rattle.paths.specs.Search.{finishedMark, MarksClosed, sign, Stack, Starts, Trail, Explored, Ends, Others, Standing, Regions, Invariant}
 use Rattle.paths.specs.Sums.{count-le, count-same}
 use Rattle.paths.specs.Runs.{up-to, back-to}
 use Rattle.paths.specs.Stays.{kept-in}
@@ -32,7 +32,7 @@ pub record LowestOnStack (stack : List ℕ) (stand size low : ℕ) : Type 0 wher
   pub is : stack ! place ≡ low
   pub least : (q : ℕ) → stand ≤ q → q < size → low ≤ stack ! q
 
-module _ {g : Ground} (C : OneWay g) {old : List ℕ} {root : ℕ} {s : Regions} {size blocks stand : ℕ} (I : Invariant g old root s size blocks stand) (live : 0 < size)
+module _ {g : Ground} (C : OneWay g) {old : Regions} {root : ℕ} {s : Regions} {size blocks stand : ℕ} (I : Invariant g old root s size blocks stand) (live : 0 < size)
     (full : s .next ! (s .stack ! stand) ≡ 4) (starts : s .starts ! pred blocks ≡ stand) {low : ℕ} (lowest : LowestOnStack (s .stack) stand size low)
     {marks′ leaders′ : List ℕ} (did : Closing g (s .marks) (s .leaders) (s .stack) stand size low marks′ leaders′) where
   L : Standing g (s .next) (s .stack) (s .starts) root size blocks stand
@@ -50,20 +50,22 @@ module _ {g : Ground} (C : OneWay g) {old : List ℕ} {root : ℕ} {s : Regions}
   position : (p q : ℕ) → p < size → q < size → s .stack ! p ≡ s .stack ! q → p ≡ q
   position p q a b e = omega (arith, I .base .stack .stack-marks p a, I .base .stack .stack-marks q b, ap (λ (u : ℕ). s .marks ! u) e)
 
-  low-or : (u : ℕ) → u < g .n → In u ⊎ Out u
-  low-or u lt =
+  -- where a piece of the block stands, its mark tells
+  in-at : (u q : ℕ) → q < size → s .stack ! q ≡ u → q ≡ pred (s .marks ! u)
+  in-at u q b e = omega (arith, I .base .stack .stack-marks q b, ap (λ (u : ℕ). s .marks ! u) e)
+
+  low-or : (u : ℕ) → In u ⊎ Out u
+  low-or u =
       ⊎-elim
-      (λ z. inr (λ q a b e. omega (arith, I .base .stack .stack-marks q b, ap (λ (u : ℕ). s .marks ! u) e)))
-      (λ nz. ⊎-elim
-      (λ f. inr (λ q a b e. omega (arith, I .base .stack .stack-marks q b, ap (λ (u : ℕ). s .marks ! u) e, I .base .small, I .base .stack .few, count-le (s .marks) (g .n))))
-      (λ nf.
-      let o = I .base .stack .marks-stack u lt nz nf in
-      ⊎-elim
-      (λ h. inr (λ q a b e. omega (arith, o .1, I .base .stack .stack-marks q b, ap (λ (u : ℕ). s .marks ! u) e)))
-      (λ h. inl (o .0, h, o .2, o .3))
-      (lt-or (o .0) stand))
-      (eq-or (s .marks ! u) finishedMark))
-      (eq-or (s .marks ! u) 0)
+      (λ l. ⊎-elim
+      (λ h. inr (λ q a b e. omega (arith, in-at u q b e)))
+      (λ h. ⊎-elim
+      (λ e. inl (pred (s .marks ! u), h, l, e))
+      (λ f. inr (λ q a b e. f (ap (λ (p : ℕ). s .stack ! p) (sym (in-at u q b e)) ∙ e)))
+      (eq-or (s .stack ! pred (s .marks ! u)) u))
+      (lt-or (pred (s .marks ! u)) stand))
+      (λ h. inr (λ q a b e. omega (arith, in-at u q b e)))
+      (lt-or (pred (s .marks ! u)) size)
 
   in-marks : (u : ℕ) → In u → marks′ ! u ≡ finishedMark
   in-marks u i = ap (λ (x : ℕ). marks′ ! x) (sym (i .3)) ∙ did .hit (i .0) (i .1) (i .2) .0
@@ -84,33 +86,32 @@ module _ {g : Ground} (C : OneWay g) {old : List ℕ} {root : ℕ} {s : Regions}
   below-out q lt p a b e = omega (arith, position p q b (omega (arith, L .stand-lt)) e)
 
   fin-up : (u : ℕ) → u < g .n → s .marks ! u ≡ finishedMark → marks′ ! u ≡ finishedMark
-  fin-up u lt e = ⊎-elim (λ i. in-marks u i) (λ o. out-marks u lt o ∙ e) (low-or u lt)
+  fin-up u lt e = ⊎-elim (λ i. in-marks u i) (λ o. out-marks u lt o ∙ e) (low-or u)
 
   zero-down : (u : ℕ) → u < g .n → marks′ ! u ≡ 0 → s .marks ! u ≡ 0
-  zero-down u lt e = ⊎-elim (λ i. absurd (omega (arith, in-marks u i))) (λ o. sym (out-marks u lt o) ∙ e) (low-or u lt)
+  zero-down u lt e = ⊎-elim (λ i. absurd (omega (arith, in-marks u i))) (λ o. sym (out-marks u lt o) ∙ e) (low-or u)
 
   sign-same : (u : ℕ) → u < g .n → sign (s .marks ! u) ≡ sign (marks′ ! u)
   unfolding sign
-  sign-same u lt = ⊎-elim (λ i. ap sign (in-old u i) ∙ sym (ap sign (in-marks u i))) (λ o. ap sign (sym (out-marks u lt o))) (low-or u lt)
+  sign-same u lt = ⊎-elim (λ i. ap sign (in-old u i) ∙ sym (ap sign (in-marks u i))) (λ o. ap sign (sym (out-marks u lt o))) (low-or u)
 
-  stack : Stack g marks′ (s .stack) stand
+  stack : Stack g root marks′ (s .stack) stand
   stack = record {
     stack-lt = λ q lt. I .base .stack .stack-lt q (omega (arith, L .stand-lt));
     stack-marks = λ q lt.
         out-marks (s .stack ! q) (I .base .stack .stack-lt q (omega (arith, L .stand-lt))) (below-out q lt) ∙ I .base .stack .stack-marks q (omega (arith, L .stand-lt));
-    marks-stack = λ v lt a b.
+    stack-in = λ q lt. I .base .stack .stack-in q (omega (arith, L .stand-lt));
+    marks-stack = λ v lt k a b.
         ⊎-elim
         (λ i. absurd (b (in-marks v i)))
         (λ o.
         let e = out-marks v lt o in
-        let r = I .base .stack .marks-stack v lt (λ z. a (e ∙ z)) (λ z. b (e ∙ z)) in
+        let r = I .base .stack .marks-stack v lt k (λ z. a (e ∙ z)) (λ z. b (e ∙ z)) in
         ⊎-elim
         (λ h. (r .0, e ∙ r .1, h, r .3))
         (λ h. absurd (o (r .0) h (r .2) (r .3)))
         (lt-or (r .0) stand))
-        (low-or v lt);
-    inside = λ v lt a. I .base .stack .inside v lt (λ z. ⊎-elim
-        (λ i. omega (arith, in-old v i)) (λ o. a (out-marks v lt o ∙ z)) (low-or v lt));
+        (low-or v);
     few = omega (arith, L .stand-lt, I .base .stack .few, count-same (s .marks) marks′ (g .n) sign-same);
   }
 
@@ -141,16 +142,16 @@ module _ {g : Ground} (C : OneWay g) {old : List ℕ} {root : ℕ} {s : Regions}
         (lt-or i (pred blocks)));
   }
 
-  explored : Explored g marks′ (s .next) (s .stack) (s .starts) stand (pred blocks)
+  explored : Explored g root marks′ (s .next) (s .stack) (s .starts) stand (pred blocks)
   explored = record {
     four = I .base .explored .four;
-    fresh = λ v lt z. I .base .explored .fresh v lt (zero-down v lt z);
+    fresh = λ v lt k z. I .base .explored .fresh v lt k (zero-down v lt z);
     seen = λ q lt j u v w i x y.
         let o = I .base .explored .seen q (omega (arith, L .stand-lt)) j u v w i (omega arith) y in
         ⊎-elim
         (λ n. omega (arith, in-marks _ n, last-below i x, L .stand-lt, I .base .small, I .base .stack .few, count-le (s .marks) (g .n)))
         (λ n. omega (arith, o, out-marks (g .at (s .stack ! q) j) v n))
-        (low-or (g .at (s .stack ! q) j) v);
+        (low-or (g .at (s .stack ! q) j));
   }
 
   -- all places of a piece of the block are explored
@@ -166,16 +167,17 @@ module _ {g : Ground} (C : OneWay g) {old : List ℕ} {root : ℕ} {s : Regions}
       ⊎-elim
       (λ f. fin-up t v f)
       (λ nf.
-      let r = I .base .stack .marks-stack t v (λ z. omega (arith, z, o)) nf in
+      let k = reached-next (I .base .stack .stack-in q b) (I .base .stack .stack-lt q b) j u v w in
+      let r = I .base .stack .marks-stack t v k (λ z. omega (arith, z, o)) nf in
       in-marks t ((r .0, omega (arith, r .1, o, starts), r .2, r .3)))
       (eq-or (s .marks ! t) finishedMark)
 
-  closed : MarksClosed g marks′
-  closed x lt e j u =
+  closed : MarksClosed g (Reached g root) marks′
+  closed x lt k e j u =
       ⊎-elim
       (λ i. subst (λ (x : ℕ). g .at x j < g .n → g .state (g .at x j) ≡ g .class → marks′ ! (g .at x j) ≡ finishedMark) (i .3) (block-closed (i .0) (i .1) (i .2) j u))
-      (λ o v w. fin-up (g .at x j) v (I .base .ends .closed x lt (sym (out-marks x lt o) ∙ e) j u v w))
-      (low-or x lt)
+      (λ o v w. fin-up (g .at x j) v (I .base .ends .closed x lt k (sym (out-marks x lt o) ∙ e) j u v w))
+      (low-or x)
 
   -- any two pieces of the block reach each other
   within : (p q : ℕ) → stand ≤ p → p < size → stand ≤ q → q < size → Way g (s .stack ! p) (s .stack ! q)
@@ -188,32 +190,37 @@ module _ {g : Ground} (C : OneWay g) {old : List ℕ} {root : ℕ} {s : Regions}
     back = way-at (sym (lowest .is)) refl (within (lowest .place) p (lowest .from-stand) (lowest .to-size) a b);
     lowest = λ y r r′.
         let lt : s .stack ! p < g .n = I .base .stack .stack-lt p b in
-        let cx : g .state (s .stack ! p) ≡ g .class = I .base .stack .inside (s .stack ! p) lt (λ z. omega (arith, z, I .base .stack .stack-marks p b)) in
-        let k = kept-in marks′ C closed cx r r′ lt cx (did .hit p a b .0) in
+        let x-in = I .base .stack .stack-in p b in
+        let k = kept-in marks′ C closed (x-in .is) r r′ lt x-in (did .hit p a b .0) in
         ⊎-elim
         (λ i. omega (arith, lowest .least (i .0) (i .1) (i .2), i .3))
         (λ o.
-        let yf : s .marks ! y ≡ finishedMark = sym (out-marks y (k .0) o) ∙ k .1 in
-        let cy : g .state y ≡ g .class = I .base .stack .inside y (k .0) (λ z. omega (arith, z, yf)) in
-        let m = kept-in (s .marks) C (I .base .ends .closed) cx r′ here (k .0) cy yf in
-        absurd (in-not-fin (s .stack ! p) ((p, a, b, refl)) (m .1)))
-        (low-or y (k .0));
+        let yf : s .marks ! y ≡ finishedMark = sym (out-marks y (k .0) o) ∙ k .2 in
+        let m = kept-in (s .marks) C (I .base .ends .closed) (x-in .is) r′ here (k .0) (k .1) yf in
+        absurd (in-not-fin (s .stack ! p) ((p, a, b, refl)) (m .2)))
+        (low-or y);
   }
 
-  ends : Ends g old marks′ leaders′ root
+  ends : Ends g root marks′ leaders′
   ends = record {
     closed = closed;
-    exact = λ x lt e.
+    exact = λ x lt k e.
         ⊎-elim
         (λ i. subst (λ (l : ℕ). Leads g x l) (sym (in-leaders x i)) (subst (λ (x : ℕ). Leads g x low) (i .3) (exact-in (i .0) (i .1) (i .2))))
-        (λ o. subst (λ (l : ℕ). Leads g x l) (sym (did .miss x lt o .1)) (I .base .ends .exact x lt (sym (out-marks x lt o) ∙ e)))
-        (low-or x lt);
-    «from» = λ x lt e.
+        (λ o. subst (λ (l : ℕ). Leads g x l) (sym (did .miss x lt o .1)) (I .base .ends .exact x lt k (sym (out-marks x lt o) ∙ e)))
+        (low-or x);
+  }
+
+  others : Others g root old marks′ (s .next) leaders′
+  others = record {
+    same = λ v lt.
         ⊎-elim
-        (λ i. inr (way-at (sym (L .first)) (sym (i .3)) (up-to (I .base .trail) 0 (i .0) (omega arith) (i .2))))
-        (λ o. I .base .ends .«from» x lt (sym (out-marks x lt o) ∙ e))
-        (low-or x lt);
-    kept = λ x lt e. fin-up x lt (I .base .ends .kept x lt e);
+        (λ k. inl k)
+        (λ e. ⊎-elim
+        (λ i. inl (subst (λ (x : ℕ). Reached g root x) (i .3) (I .base .stack .stack-in (i .0) (i .2))))
+        (λ o. inr (out-marks v lt o ∙ e .0, e .1, did .miss v lt o .1 ∙ e .2))
+        (low-or v))
+        (I .base .others .same v lt);
   }
 
   root-lt : root < g .n
@@ -236,6 +243,7 @@ module _ {g : Ground} (C : OneWay g) {old : List ℕ} {root : ℕ} {s : Regions}
       trail = trail;
       explored = explored;
       ends = ends;
+      others = others;
     };
     live = λ p.
         let down : s .parents ! stand < stand = I .base .trail .par-lt stand (L .stand-lt) p in

@@ -10,8 +10,8 @@ use Rattle.rules.specs.Reach.{here}
 use Rattle.rules.specs.Lists.{_!_}
 use Rattle.laws.specs.Words.{trans}
 use Rattle.laws.specs.Numbers.{lt-or, set-cases}
-use Rattle.paths.specs.Ground.{Ground, Way, way-at}
-use Rattle.paths.specs.Search.{finishedMark, sign, Stack, Starts, Trail, Explored, Ends, Standing, Regions, Steady, Invariant}
+use Rattle.paths.specs.Ground.{Ground, Way, Reached, way-at}
+use Rattle.paths.specs.Search.{finishedMark, sign, Stack, Starts, Trail, Explored, Ends, Others, Standing, Regions, Steady, Invariant}
 use Rattle.paths.specs.Sums.{count-lt, count-more}
 
 -- an entry of a list that grows at its end
@@ -33,15 +33,15 @@ pushed s size blocks stand y = record {
 }
 
 -- a piece is unseen: the stack has room for one more
-pub stack-room : {g : Ground} {marks stack : List ℕ} {size : ℕ} → Stack g marks stack size → (y : ℕ) → y < g .n → marks ! y ≡ 0 → size < g .n
-stack-room {g} {marks} S y lt e = omega (arith, S .few, count-lt marks (g .n) y lt e)
+pub stack-room : {g : Ground} {root : ℕ} {marks stack : List ℕ} {size : ℕ} → Stack g root marks stack size → (y : ℕ) → y < g .n → marks ! y ≡ 0 → size < g .n
+stack-room {g} {marks = marks} S y lt e = omega (arith, S .few, count-lt marks (g .n) y lt e)
 
 -- no more blocks than pieces
 pub blocks-few : {starts : List ℕ} {size blocks : ℕ} → Starts starts size blocks → blocks ≤ size
 blocks-few {blocks = blocks} S =
     ⊎-elim (λ h. omega (arith, S .rank (pred blocks) (omega arith), S .below (pred blocks) (omega arith))) (λ h. omega arith) (lt-or 0 blocks)
 
-module _ {g : Ground} {old : List ℕ} {root : ℕ} {s : Regions} {size blocks stand : ℕ} (B : Steady g old root s size blocks)
+module _ {g : Ground} {old : Regions} {root : ℕ} {s : Regions} {size blocks stand : ℕ} (B : Steady g old root s size blocks)
     (lv : 0 < size → Standing g (s .next) (s .stack) (s .starts) root size blocks stand) (rooted : 0 < size → s .marks ! root ≡ 0 → ⊥)
     (y : ℕ) (y-lt : y < g .n) (y-in : g .state y ≡ g .class) (y-new : s .marks ! y ≡ 0)
     (hit : 0 < size → Way g (s .stack ! stand) y) (begin : size ≡ 0 → y ≡ root) (ahead : stand ≤ size) where
@@ -97,7 +97,17 @@ module _ {g : Ground} {old : List ℕ} {root : ℕ} {s : Regions} {size blocks s
   not-y : (q : ℕ) → q < size → s .stack ! q ≡ y → ⊥
   not-y q lt e = omega (arith, B .stack .stack-marks q lt, ap (λ (u : ℕ). s .marks ! u) e)
 
-  stack : Stack g (set (s .marks) y (suc size)) (set (s .stack) size y) (suc size)
+  y-reached : Reached g root y
+  y-reached = record {
+    is = y-in;
+    way =
+        ⊎-elim
+        (λ h. trans (B .stack .stack-in stand (lv h .stand-lt) .way) (hit h))
+        (λ h. way-at refl (begin (omega arith)) here)
+        (lt-or 0 size);
+  }
+
+  stack : Stack g root (set (s .marks) y (suc size)) (set (s .stack) size y) (suc size)
   unfolding sign
   stack = record {
     stack-lt = λ q lt. ⊎-elim (λ w. omega (arith, w .1, B .stack .stack-lt q (w .0))) (λ w. omega (arith, w .1)) (stack-at q lt);
@@ -106,17 +116,17 @@ module _ {g : Ground} {old : List ℕ} {root : ℕ} {s : Regions} {size blocks s
         (λ w. ap (λ (u : ℕ). set (s .marks) y (suc size) ! u) (w .1) ∙ marks-old (s .stack ! q) (not-y q (w .0)) ∙ B .stack .stack-marks q (w .0))
         (λ w. ap (λ (u : ℕ). set (s .marks) y (suc size) ! u) (w .1) ∙ marks-new ∙ ap suc (sym (w .0)))
         (stack-at q lt);
-    marks-stack = λ v lt a b.
+    stack-in = λ q lt.
+        ⊎-elim
+        (λ w. subst (λ (x : ℕ). Reached g root x) (sym (w .1)) (B .stack .stack-in q (w .0)))
+        (λ w. subst (λ (x : ℕ). Reached g root x) (sym (w .1)) y-reached)
+        (stack-at q lt);
+    marks-stack = λ v lt r a b.
         ⊎-elim
         (λ w. (size, w .1, omega arith, stack-new ∙ sym (w .0)))
         (λ w.
-        let o = B .stack .marks-stack v lt (λ e. a (w .1 ∙ e)) (λ e. b (w .1 ∙ e)) in
+        let o = B .stack .marks-stack v lt r (λ e. a (w .1 ∙ e)) (λ e. b (w .1 ∙ e)) in
         (o .0, w .1 ∙ o .1, omega (arith, o .2), stack-old (o .0) (o .2) ∙ o .3))
-        (marks-at v);
-    inside = λ v lt a.
-        ⊎-elim
-        (λ w. ap (g .state) (w .0) ∙ y-in)
-        (λ w. B .stack .inside v lt (λ e. a (w .1 ∙ e)))
         (marks-at v);
     few = omega (
       arith,
@@ -201,14 +211,14 @@ module _ {g : Ground} {old : List ℕ} {root : ℕ} {s : Regions} {size blocks s
   seen-at q lt =
       ⊎-elim
       (λ w. subst (λ (x : ℕ). SeenAt q x) (sym (w .1)) (seen-old q (w .0)))
-      (λ w. subst (λ (x : ℕ). SeenAt q x) (sym (w .1)) (λ j a. absurd (omega (arith, B .explored .fresh y y-lt y-new))))
+      (λ w. subst (λ (x : ℕ). SeenAt q x) (sym (w .1)) (λ j a. absurd (omega (arith, B .explored .fresh y y-lt y-reached y-new))))
       (stack-at q lt)
 
-  explored : Explored g (set (s .marks) y (suc size)) (s .next) (set (s .stack) size y) (set (s .starts) blocks size) (suc size) (suc blocks)
+  explored : Explored g root (set (s .marks) y (suc size)) (s .next) (set (s .stack) size y) (set (s .starts) blocks size) (suc size) (suc blocks)
   unfolding SeenAt
   explored = record {
     four = B .explored .four;
-    fresh = λ v lt z. ⊎-elim (λ w. absurd (omega (arith, w .1))) (λ w. B .explored .fresh v lt (sym (w .1) ∙ z)) (marks-at v);
+    fresh = λ v lt r z. ⊎-elim (λ w. absurd (omega (arith, w .1))) (λ w. B .explored .fresh v lt r (sym (w .1) ∙ z)) (marks-at v);
     seen = seen-at;
   }
 
@@ -218,12 +228,19 @@ module _ {g : Ground} {old : List ℕ} {root : ℕ} {s : Regions} {size blocks s
   fin-new : (v : ℕ) → s .marks ! v ≡ finishedMark → set (s .marks) y (suc size) ! v ≡ finishedMark
   fin-new v e = ⊎-elim (λ w. absurd (omega (arith, ap (λ (u : ℕ). s .marks ! u) (w .0)))) (λ w. w .1 ∙ e) (marks-at v)
 
-  ends : Ends g old (set (s .marks) y (suc size)) (s .leaders) root
+  ends : Ends g root (set (s .marks) y (suc size)) (s .leaders)
   ends = record {
-    closed = λ x lt e j u v w. fin-new (g .at x j) (B .ends .closed x lt (fin-old x e) j u v w);
-    exact = λ x lt e. B .ends .exact x lt (fin-old x e);
-    «from» = λ x lt e. B .ends .«from» x lt (fin-old x e);
-    kept = λ x lt e. fin-new x (B .ends .kept x lt e);
+    closed = λ x lt r e j u v w. fin-new (g .at x j) (B .ends .closed x lt r (fin-old x e) j u v w);
+    exact = λ x lt r e. B .ends .exact x lt r (fin-old x e);
+  }
+
+  others : Others g root old (set (s .marks) y (suc size)) (s .next) (s .leaders)
+  others = record {
+    same = λ v lt.
+        ⊎-elim
+        (λ r. inl r)
+        (λ e. ⊎-elim (λ w. inl (subst (λ (x : ℕ). Reached g root x) (sym (w .0)) y-reached)) (λ w. inr (w .1 ∙ e .0, e .1, e .2)) (marks-at v))
+        (B .others .same v lt);
   }
 
   pub push : Invariant g old root (pushed s size blocks stand y) (suc size) (suc blocks) size
@@ -243,6 +260,7 @@ module _ {g : Ground} {old : List ℕ} {root : ℕ} {s : Regions} {size blocks s
       trail = trail;
       explored = explored;
       ends = ends;
+      others = others;
     };
     live = λ pos. record {
       stand-lt = omega arith;

@@ -15,4 +15,5 @@ pieces-start-spec =
     (λ c. search depth 0)
     (λ c. search depth 0)
     (λ c. search depth 0)
+    (λ c. search depth 0)
     (λ c. search packs))

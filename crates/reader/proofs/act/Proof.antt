@@ -13,7 +13,7 @@ obey-requires c κs =
 write-reply-requires : tie.Need-write-reply-requires
 write-reply-requires c κs =
     let done : tie.After-obey = search in
-    let lent : tie.Start = search in
+    let lent = done .before .before .before .before .before .before .before .before .before .before .before .before .before .before .before .before .before .before .before .before in
     (freed-listed (done .obey .ensures .did), freed-few (lent .pre .0 .ready) (done .obey .ensures .did), lent .pre .1)
 
 returns : tie.Need-returns
@@ -28,6 +28,7 @@ act-spec =
     (tie.spec
     obey-requires
     write-reply-requires
+    (λ c. search)
     (λ c. search)
     (λ c. search)
     (λ c. search)

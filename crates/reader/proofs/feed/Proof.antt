@@ -12,14 +12,14 @@ use Rattle.reader.proofs.feed.Statement.{statement}
 use Rattle.reader.proofs.feed.Tie as tie
 
 abbrev Inv-loop : tie.InvT-loop
-Inv-loop text n states₀ links₀ leaders₀ holds₀ counts₀ register₀ list₀ work₀ from₀ out₀ most at₀ written₀ states links leaders holds counts register list work from out at
-    written =
-    Feeding n (storeOf n states₀ links₀ leaders₀ holds₀ counts₀ register₀) text (storeOf n states links leaders holds counts register) list work out at written from
+Inv-loop text n states₀ links₀ leaders₀ holds₀ counts₀ register₀ into₀ list₀ work₀ from₀ out₀ most at₀ written₀
+    states links leaders holds counts register into list work from out at written =
+    Feeding n (storeOf n states₀ links₀ leaders₀ holds₀ counts₀ register₀ into₀) text (storeOf n states links leaders holds counts register into) list work out at written from
     × (length list ≡ length list₀) × (length work ≡ length work₀) × (length out ≡ length out₀)
 
 abbrev μ-loop : tie.MeasureT-loop
-μ-loop text n states₀ links₀ leaders₀ holds₀ counts₀ register₀ list₀ work₀ from₀ out₀ most at₀ written₀ states links leaders holds counts register list work from out at
-    written =
+μ-loop text n states₀ links₀ leaders₀ holds₀ counts₀ register₀ into₀ list₀ work₀ from₀ out₀ most at₀ written₀
+    states links leaders holds counts register into list work from out at written =
     length text - at
 
 -- what was lent, seen from a turn of the loop
@@ -119,6 +119,7 @@ feed-spec =
     (λ c. omega arith)
     (λ c. omega arith)
     (λ c. omega arith)
+    (λ c. omega arith)
     returns
     read-requires
     enum-known-command
@@ -131,6 +132,7 @@ feed-spec =
     put-bad-requires
     loop-less-2
     loop-again-2
+    (λ c. omega arith)
     (λ c. omega arith)
     (λ c. omega arith)
     (λ c. omega arith)

@@ -2,7 +2,7 @@
 use mathlib.Core.Path.{_∙_}
 use Prim.Native.Nat.{_-_}
 use native.Mathlib.Omega.{arith}
-use Rattle.sound.specs.Tested.{PiecesTested, pieces-start, piece-countable, piece-given, piece-well, piece-wrong, pieces-all}
+use Rattle.sound.specs.Tested.{PiecesTested, pieces-start, hold-given, piece-given, piece-well, piece-wrong, pieces-all}
 use Rattle.sound.proofs.all_linked.Statement.{statement}
 use Rattle.sound.proofs.all_linked.Tie as tie
 
@@ -20,7 +20,7 @@ add-hold-requires c κs =
     let looped = c .before .before in
     let known = looped .before .before in
     let start = known .before .before .before .before in
-    (piece-countable (start .pre) (looped .loop .inv) (λ q. omega (arith, known .shared-slice-known4 .given q)), start .pre .holds-n, c .before .loop-test .taken)
+    hold-given (start .pre) (looped .loop .inv) (λ q. omega (arith, known .shared-slice-known4 .given q)) (c .before .loop-test .taken)
 
 links-well-requires : tie.Need-links-well-requires Inv-loop μ-loop
 links-well-requires c κs =

@@ -1,4 +1,5 @@
 -- `sound::judge` meets its contract: the first pass that says no refutes soundness, and the last decides it. Assumes nothing.
+use native.Mathlib.Omega.{arith}
 use borrow.Author.Needs.{needs}
 use Rattle.sound.specs.Judged.{not-held, count-given, not-linked, well-counted, searchable, not-led, counts-judged}
 use Rattle.sound.proofs.judge.Statement.{statement}
@@ -13,8 +14,8 @@ returns c = not-held (c .before .all-held .ensures) (c .if1 .taken)
 count-up-requires : tie.Need-count-up-requires
 count-up-requires c κs =
     let held = c .before .before in
-    let start = held .before .before .before .before .before .before .before in
-    count-given (start .pre .0) (start .pre .1) (held .all-held .ensures) (c .before .if1 .left)
+    let start = held .before .before .before .before .before .before .before .before in
+    count-given (start .pre .0) (start .pre .2) (held .all-held .ensures) (c .before .if1 .left)
 
 same-length : tie.Need-same-length
 same-length c = search needs
@@ -24,18 +25,18 @@ returns-2 c =
     let counted = c .before .before .before in
     let held-well = counted .before .before in
     let held = held-well .before in
-    let start = held .before .before .before .before .before .before .before in
-    not-linked (start .pre .0) (start .pre .1) (held .all-held .ensures) (held-well .if1 .left) (counted .count-up .ensures) (c .if2 .taken)
+    let start = held .before .before .before .before .before .before .before .before in
+    not-linked (start .pre .0) (start .pre .2) (held .all-held .ensures) (held-well .if1 .left) (counted .count-up .ensures) (c .if2 .taken)
 
 visit-all-requires : tie.Need-visit-all-requires
 visit-all-requires c κs =
     let counted = c .before .before .before .before in
     let held-well = counted .before .before in
     let held = held-well .before in
-    let start = held .before .before .before .before .before .before .before in
+    let start = held .before .before .before .before .before .before .before .before in
     let given = start .pre in
-    let passed = well-counted (given .0) (given .1) (held .all-held .ensures) (held-well .if1 .left) (counted .count-up .ensures) (c .before .if2 .left) in
-    searchable (given .0) passed (given .1)
+    let passed = well-counted (given .0) (given .2) (held .all-held .ensures) (held-well .if1 .left) (counted .count-up .ensures) (c .before .if2 .left) in
+    searchable (given .0) passed (given .2)
 
 leaders-found-requires : tie.Need-leaders-found-requires
 leaders-found-requires c κs = search needs
@@ -50,13 +51,19 @@ returns-3 c =
     let counted = linked .before .before .before in
     let held-well = counted .before .before in
     let held = held-well .before in
-    let start = held .before .before .before .before .before .before .before in
+    let start = held .before .before .before .before .before .before .before .before in
     let given = start .pre in
-    let passed = well-counted (given .0) (given .1) (held .all-held .ensures) (held-well .if1 .left) (counted .count-up .ensures) (linked .if2 .left) in
+    let passed = well-counted (given .0) (given .2) (held .all-held .ensures) (held-well .if1 .left) (counted .count-up .ensures) (linked .if2 .left) in
     not-led (given .0) passed (grouped .visit-all .ensures) (c .before .leaders-found .ensures) (c .if3 .taken)
 
 counts-found-requires : tie.Need-counts-found-requires
-counts-found-requires c κs = search needs
+counts-found-requires c κs =
+    let grouped = c .before .before .before .before .before .before in
+    let counted = grouped .before .before .before .before .before in
+    let start = counted .before .before .before .before .before .before .before .before .before .before .before in
+    let given = start .pre in
+    let tables = given .0 in
+    (tables .base .most, tables .leaders, tables .counts, given .1, omega (arith, given .2 .size, counted .count-up .ensures .kept .size, grouped .visit-all .ensures .size))
 
 same-length-3 : tie.Need-same-length-3
 same-length-3 c = search needs
@@ -70,10 +77,10 @@ returns-4 c =
     let counted = linked .before .before .before in
     let held-well = counted .before .before in
     let held = held-well .before in
-    let start = held .before .before .before .before .before .before .before in
+    let start = held .before .before .before .before .before .before .before .before in
     let given = start .pre in
-    let passed = well-counted (given .0) (given .1) (held .all-held .ensures) (held-well .if1 .left) (counted .count-up .ensures) (linked .if2 .left) in
-    counts-judged (given .0) passed (grouped .visit-all .ensures) (found .leaders-found .ensures) (led .if3 .left) (c .counts-found .ensures)
+    let passed = well-counted (given .0) (given .2) (held .all-held .ensures) (held-well .if1 .left) (counted .count-up .ensures) (linked .if2 .left) in
+    counts-judged (given .0) passed (grouped .visit-all .ensures) (found .leaders-found .ensures) (led .if3 .left) (given .1) (c .counts-found .ensures)
 
 pub judge-spec : {M : Type 1} → statement M
 judge-spec =

@@ -1,12 +1,14 @@
--- `sound::link_well` meets its contract: each return is one case of `LinkWell`. Assumes nothing.
+-- `sound::link_well` meets its contract: each return is one case of `LinkWell`, and the last two of the target's label. Assumes nothing.
 use native.Mathlib.Omega.{arith}
 use borrow.Author.Needs.{needs}
-use Rattle.sound.specs.Tested.{tested-none, tested-beyond, tested-low, tested-live}
+use Rattle.sound.specs.Link.{tested-none, tested-beyond, tested-low, link-below, link-room, tested-own, tested-other}
 use Rattle.sound.proofs.link_well.Statement.{statement}
 use Rattle.sound.proofs.link_well.Tie as tie
 
 returns : tie.Need-returns
-returns c = tested-none (c .before .before .before .before .pre) (c .if1 .taken)
+returns c =
+    let start = c .before .before .before .before in
+    tested-none (start .pre) (c .if1 .taken)
 
 returns-2 : tie.Need-returns-2
 returns-2 c = tested-beyond (c .before .if1 .left) (c .if2 .taken)
@@ -16,23 +18,70 @@ shared-slice-read-if3 c = search needs
 
 returns-3 : tie.Need-returns-3
 returns-3 c =
-    let not-none = c .before .before .before in
-    let start = not-none .before .before .before .before in
-    tested-low (not-none .if1 .left) (omega (arith, c .if3 .taken, start .pre .some))
+    let some = c .before .before .before in
+    let start = some .before .before .before .before in
+    tested-low (some .if1 .left) (omega (arith, c .if3 .taken, start .pre .some))
 
-add-link-requires : tie.Need-add-link-requires
-add-link-requires c κs = c .before .before .before .before .before .before .before .before .pre .countable
+mul-label : tie.Need-mul-label
+mul-label c = search needs
+
+shared-slice-read-label : tie.Need-shared-slice-read-label
+shared-slice-read-label c = search needs
+
+label-requires : tie.Need-label-requires
+label-requires c κs = search needs
+
+returns-4 : tie.Need-returns-4
+returns-4 c =
+    let live = c .before .before .before in
+    let below = live .before .before in
+    let start = below .before .before .before .before .before in
+    tested-own (start .pre) (below .if2 .left) (c .before .label .ensures) (omega (arith, live .if3 .left)) (c .if4 .taken)
+
+mul-counts : tie.Need-mul-counts
+mul-counts c =
+    let below = c .before .before .before .before .before in
+    let start = below .before .before .before .before .before in
+    omega (arith, link-below (start .pre) (below .if2 .left) (c .before .label .ensures), start .pre .countable .labelled .small)
+
+slice-read-counts : tie.Need-slice-read-counts
+slice-read-counts c =
+    let named = c .before .before in
+    let below = named .before .before .before .before in
+    let start = below .before .before .before .before .before in
+    omega (arith, link-below (start .pre) (below .if2 .left) (named .label .ensures), start .pre .countable .labelled .counts-n)
+
+add-counts : tie.Need-add-counts
+add-counts c =
+    let named = c .before .before in
+    let below = named .before .before .before .before in
+    let start = below .before .before .before .before .before in
+    omega (arith, link-room (start .pre) (below .if2 .left) (named .label .ensures))
+
+mul-counts-2 : tie.Need-mul-counts-2
+mul-counts-2 c =
+    let named = c .before .before in
+    let below = named .before .before .before .before in
+    let start = below .before .before .before .before .before in
+    omega (arith, link-below (start .pre) (below .if2 .left) (named .label .ensures), start .pre .countable .labelled .small)
+
+slice-write-counts : tie.Need-slice-write-counts
+slice-write-counts c =
+    let named = c .before .before in
+    let below = named .before .before .before .before in
+    let start = below .before .before .before .before .before in
+    omega (arith, link-below (start .pre) (below .if2 .left) (named .label .ensures), start .pre .countable .labelled .counts-n)
 
 same-length : tie.Need-same-length
 same-length c = search needs
 
-returns-4 : tie.Need-returns-4
-returns-4 c =
-    let added = c .before .before in
-    let live = added .before .before in
+returns-5 : tie.Need-returns-5
+returns-5 c =
+    let named = c .before .before in
+    let live = named .before .before in
     let below = live .before .before in
     let start = below .before .before .before .before .before in
-    tested-live (start .pre) (below .if2 .left) (omega (arith, live .if3 .left)) (added .add-link .ensures)
+    tested-other (start .pre) (below .if2 .left) (named .label .ensures) (omega (arith, live .if3 .left)) (c .before .if4 .left)
 
 pub link-well-spec : {M : Type 1} → statement M
 link-well-spec =
@@ -42,6 +91,14 @@ link-well-spec =
     returns-2
     shared-slice-read-if3
     returns-3
-    add-link-requires
+    mul-label
+    shared-slice-read-label
+    label-requires
+    returns-4
+    mul-counts
+    slice-read-counts
+    add-counts
+    mul-counts-2
+    slice-write-counts
     same-length
-    returns-4)
+    returns-5)

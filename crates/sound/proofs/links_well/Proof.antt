@@ -1,7 +1,7 @@
 -- `sound::links_well` meets its contract: the word tells which links are empty, and the others are tested and counted. Assumes nothing.
 use native.Mathlib.Omega.{arith}
 use borrow.Author.Needs.{needs}
-use Rattle.sound.specs.Tested.{tested-empty, tested-free, places-start, next-given, next-well, next-wrong, first-well, first-wrong, tested-one, tested-four}
+use Rattle.sound.specs.Links.{tested-empty, tested-free, places-start, next-given, next-well, next-wrong, first-well, first-wrong, tested-one, tested-four}
 use Rattle.sound.proofs.links_well.Statement.{statement}
 use Rattle.sound.proofs.links_well.Tie as tie
 
@@ -23,14 +23,14 @@ returns-2 c =
     let start = word .before .before .before .before .before in
     tested-free (start .pre) (word .four .ensures) (some .if1 .left) (c .if2 .taken)
 
-mul-own : tie.Need-mul-own
-mul-own c = search needs
+mul-label : tie.Need-mul-label
+mul-label c = search needs
 
-shared-slice-read-own : tie.Need-shared-slice-read-own
-shared-slice-read-own c = search needs
+shared-slice-read-label : tie.Need-shared-slice-read-label
+shared-slice-read-label c = search needs
 
-cast-own : tie.Need-cast-own
-cast-own c = omega (arith, c .shared-slice-known5 .given (c .before .before .before .before .before .before .before .before .before .args .p))
+label-requires : tie.Need-label-requires
+label-requires c κs = search needs
 
 mul-link-well : tie.Need-mul-link-well
 mul-link-well c = search needs
@@ -43,7 +43,7 @@ shared-slice-read-link-well c = search needs
 
 link-well-requires : tie.Need-link-well-requires
 link-well-requires c κs =
-    let not-free = c .before .before .before in
+    let not-free = c .before .before .before .before in
     let start = not-free .before .before .before .before .before .before .before .before in
     let given = start .pre in
     next-given given (places-start given) (omega arith) (not-free .if2 .left)
@@ -54,8 +54,9 @@ same-length c = search needs
 returns-3 : tie.Need-returns-3
 returns-3 c =
     let first = c .before .before .before in
-    let start = first .before .before .before .before .before .before .before .before .before .before .before .before in
-    first-wrong (start .pre) (first .link-well .ensures) (c .if3 .taken)
+    let own = first .before .before .before in
+    let start = own .before .before .before .before .before .before .before .before .before .before in
+    first-wrong (start .pre) (own .label .ensures) (first .link-well .ensures) (c .if3 .taken)
 
 same-length-2 : tie.Need-same-length-2
 same-length-2 c = search needs
@@ -63,10 +64,11 @@ same-length-2 c = search needs
 returns-4 : tie.Need-returns-4
 returns-4 c =
     let first = c .before .before .before .before in
-    let word = first .before .before .before .before .before .before .before in
+    let own = first .before .before .before in
+    let word = own .before .before .before .before .before in
     let start = word .before .before .before .before .before in
     let given = start .pre in
-    tested-one given (first-well given (first .link-well .ensures) (c .before .if3 .left)) (word .four .ensures) (c .if4 .taken)
+    tested-one given (first-well given (own .label .ensures) (first .link-well .ensures) (c .before .if3 .left)) (word .four .ensures) (c .if4 .taken)
 
 mul-link-well-3 : tie.Need-mul-link-well-3
 mul-link-well-3 c = search needs
@@ -84,10 +86,11 @@ link-well-requires-2 : tie.Need-link-well-requires-2
 link-well-requires-2 c κs =
     let first-passed = c .before .before .before in
     let first = first-passed .before .before .before in
-    let not-free = first .before .before .before .before in
+    let own = first .before .before .before in
+    let not-free = own .before .before in
     let start = not-free .before .before .before .before .before .before .before .before in
     let given = start .pre in
-    next-given given (first-well given (first .link-well .ensures) (first-passed .if3 .left)) (omega arith) (not-free .if2 .left)
+    next-given given (first-well given (own .label .ensures) (first .link-well .ensures) (first-passed .if3 .left)) (omega arith) (not-free .if2 .left)
 
 same-length-3 : tie.Need-same-length-3
 same-length-3 c = search needs
@@ -97,9 +100,10 @@ returns-5 c =
     let second = c .before .before .before in
     let first-passed = second .before .before .before .before in
     let first = first-passed .before .before .before in
-    let start = first .before .before .before .before .before .before .before .before .before .before .before .before in
+    let own = first .before .before .before in
+    let start = own .before .before .before .before .before .before .before .before .before .before in
     let given = start .pre in
-    next-wrong given (first-well given (first .link-well .ensures) (first-passed .if3 .left)) (omega arith) (second .link-well2 .ensures) (c .if5 .taken)
+    next-wrong given (first-well given (own .label .ensures) (first .link-well .ensures) (first-passed .if3 .left)) (omega arith) (own .label .ensures) (second .link-well2 .ensures) (c .if5 .taken)
 
 mul-link-well-5 : tie.Need-mul-link-well-5
 mul-link-well-5 c = search needs
@@ -119,11 +123,12 @@ link-well-requires-3 c κs =
     let second = second-passed .before .before .before in
     let first-passed = second .before .before .before .before in
     let first = first-passed .before .before .before in
-    let not-free = first .before .before .before .before in
+    let own = first .before .before .before in
+    let not-free = own .before .before in
     let start = not-free .before .before .before .before .before .before .before .before in
     let given = start .pre in
-    let one = first-well given (first .link-well .ensures) (first-passed .if3 .left) in
-    let two = next-well given one (omega arith) (second .link-well2 .ensures) (second-passed .if5 .left) in
+    let one = first-well given (own .label .ensures) (first .link-well .ensures) (first-passed .if3 .left) in
+    let two = next-well given one (omega arith) (own .label .ensures) (second .link-well2 .ensures) (second-passed .if5 .left) in
     next-given given two (omega arith) (not-free .if2 .left)
 
 same-length-4 : tie.Need-same-length-4
@@ -136,34 +141,35 @@ returns-6 c =
     let second = second-passed .before .before .before in
     let first-passed = second .before .before .before .before in
     let first = first-passed .before .before .before in
-    let start = first .before .before .before .before .before .before .before .before .before .before .before .before in
+    let own = first .before .before .before in
+    let start = own .before .before .before .before .before .before .before .before .before .before in
     let given = start .pre in
-    let one = first-well given (first .link-well .ensures) (first-passed .if3 .left) in
-    let two = next-well given one (omega arith) (second .link-well2 .ensures) (second-passed .if5 .left) in
-    next-wrong given two (omega arith) (third .link-well3 .ensures) (c .if6 .taken)
+    let one = first-well given (own .label .ensures) (first .link-well .ensures) (first-passed .if3 .left) in
+    let two = next-well given one (omega arith) (own .label .ensures) (second .link-well2 .ensures) (second-passed .if5 .left) in
+    next-wrong given two (omega arith) (own .label .ensures) (third .link-well3 .ensures) (c .if6 .taken)
 
 mul-link-well-7 : tie.Need-mul-link-well-7
 mul-link-well-7 c =
     let first-passed = c .before .before .before .before .before .before .before .before .before .before .before .before .before .before in
-    let given = first-passed .before .before .before .before .before .before .before .before .before .before .before .before .before .before .before .pre in
+    let given = first-passed .before .before .before .before .before .before .before .before .before .before .before .before .before .before .before .before .pre in
     omega (arith, given .below, given .labelled .small)
 
 add-link-well-3 : tie.Need-add-link-well-3
 add-link-well-3 c =
     let first-passed = c .before .before .before .before .before .before .before .before .before .before .before .before .before .before in
-    let given = first-passed .before .before .before .before .before .before .before .before .before .before .before .before .before .before .before .pre in
+    let given = first-passed .before .before .before .before .before .before .before .before .before .before .before .before .before .before .before .before .pre in
     omega (arith, given .below, given .labelled .small)
 
 mul-link-well-8 : tie.Need-mul-link-well-8
 mul-link-well-8 c =
     let first-passed = c .before .before .before .before .before .before .before .before .before .before .before .before .before .before in
-    let given = first-passed .before .before .before .before .before .before .before .before .before .before .before .before .before .before .before .pre in
+    let given = first-passed .before .before .before .before .before .before .before .before .before .before .before .before .before .before .before .before .pre in
     omega (arith, given .below, given .labelled .small)
 
 shared-slice-read-link-well-4 : tie.Need-shared-slice-read-link-well-4
 shared-slice-read-link-well-4 c =
     let first-passed = c .before .before .before .before .before .before .before .before .before .before .before .before .before .before .before in
-    let given = first-passed .before .before .before .before .before .before .before .before .before .before .before .before .before .before .before .pre in
+    let given = first-passed .before .before .before .before .before .before .before .before .before .before .before .before .before .before .before .before .pre in
     omega (arith, given .links-n, given .below)
 
 link-well-requires-4 : tie.Need-link-well-requires-4
@@ -174,12 +180,13 @@ link-well-requires-4 c κs =
     let second = second-passed .before .before .before in
     let first-passed = second .before .before .before .before in
     let first = first-passed .before .before .before in
-    let not-free = first .before .before .before .before in
+    let own = first .before .before .before in
+    let not-free = own .before .before in
     let start = not-free .before .before .before .before .before .before .before .before in
     let given = start .pre in
-    let one = first-well given (first .link-well .ensures) (first-passed .if3 .left) in
-    let two = next-well given one (omega arith) (second .link-well2 .ensures) (second-passed .if5 .left) in
-    let three = next-well given two (omega arith) (third .link-well3 .ensures) (third-passed .if6 .left) in
+    let one = first-well given (own .label .ensures) (first .link-well .ensures) (first-passed .if3 .left) in
+    let two = next-well given one (omega arith) (own .label .ensures) (second .link-well2 .ensures) (second-passed .if5 .left) in
+    let three = next-well given two (omega arith) (own .label .ensures) (third .link-well3 .ensures) (third-passed .if6 .left) in
     next-given given three (omega arith) (not-free .if2 .left)
 
 same-length-5 : tie.Need-same-length-5
@@ -194,12 +201,13 @@ returns-7 c =
     let second = second-passed .before .before .before in
     let first-passed = second .before .before .before .before in
     let first = first-passed .before .before .before in
-    let start = first .before .before .before .before .before .before .before .before .before .before .before .before in
+    let own = first .before .before .before in
+    let start = own .before .before .before .before .before .before .before .before .before .before in
     let given = start .pre in
-    let one = first-well given (first .link-well .ensures) (first-passed .if3 .left) in
-    let two = next-well given one (omega arith) (second .link-well2 .ensures) (second-passed .if5 .left) in
-    let three = next-well given two (omega arith) (third .link-well3 .ensures) (third-passed .if6 .left) in
-    tested-four given three (fourth .link-well4 .ensures)
+    let one = first-well given (own .label .ensures) (first .link-well .ensures) (first-passed .if3 .left) in
+    let two = next-well given one (omega arith) (own .label .ensures) (second .link-well2 .ensures) (second-passed .if5 .left) in
+    let three = next-well given two (omega arith) (own .label .ensures) (third .link-well3 .ensures) (third-passed .if6 .left) in
+    tested-four given (own .label .ensures) three (fourth .link-well4 .ensures)
 
 pub links-well-spec : {M : Type 1} → statement M
 links-well-spec =
@@ -209,9 +217,9 @@ links-well-spec =
     returns
     shared-slice-read-state
     returns-2
-    mul-own
-    shared-slice-read-own
-    cast-own
+    mul-label
+    shared-slice-read-label
+    label-requires
     mul-link-well
     mul-link-well-2
     shared-slice-read-link-well

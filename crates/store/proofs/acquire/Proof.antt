@@ -2,14 +2,15 @@
 use mathlib.Core.Path.{refl}
 use Rattle.rules.specs.Commands.{settles}
 use Rattle.rules.specs.Calls.{refusedBy, refusedCall, takesList, takesWork}
+use Rattle.into.specs.Stores.{leavesInto}
 use Rattle.holding.specs.Acquired.{acquiring-of}
-use Rattle.entering.specs.Entered.{entered-ready}
-use Rattle.entering.specs.Calls.{short-arm, flawed-arm, unlisted-arm}
+use Rattle.entering.specs.Entered.{entered-by}
+use Rattle.entering.specs.Calls.{short-arm, flawed-arm, still-unlisted-arm}
 use Rattle.store.proofs.acquire.Statement.{statement}
 use Rattle.store.proofs.acquire.Tie as tie
 
 acquire-requires : tie.Need-acquire-requires
-acquire-requires c κs = acquiring-of (entered-ready (c .before .before .before .before .before .before .before .enter .ensures) (c .before .before .before .enum-told3 .given .1))
+acquire-requires c κs = acquiring-of (entered-by (c .before .before .before .before .before .before .before .enter .ensures) (c .before .before .before .enum-told3 .given .1))
 
 returns : tie.Need-returns
 unfolding refusedBy refusedCall takesList takesWork
@@ -20,13 +21,12 @@ unfolding refusedBy takesList
 returns-2 c = search flawed-arm
 
 returns-3 : tie.Need-returns-3
-unfolding takesList settles
+unfolding takesList settles leavesInto
 returns-3 c =
-    let ready = entered-ready
-    (c .before .before .before .before .before .before .before .before .before .before .before .before .before .before .enter .ensures)
-    (c .before .before .before .before .before .before .before .before .before .before .enum-told3 .given .1) in
-    let did = c .before .before .before .before .before .before .acquire .ensures .did ready in
-    search unlisted-arm
+    let done = c .before .before .before .before .before .before in
+    let entered = done .before .before .before .before .before .before .before .before .enter .ensures in
+    let sound = done .before .before .before .before .enum-told3 .given .1 in
+    still-unlisted-arm entered sound refl refl (done .acquire .ensures .did (entered-by entered sound)) refl
 
 pub acquire-spec : {M : Type 1} → statement M
 acquire-spec =

@@ -7,7 +7,9 @@ use Rattle.store.proofs.bin.Statement.{statement}
 use Rattle.store.proofs.bin.Tie as tie
 
 bin-requires : tie.Need-bin-requires
-bin-requires c κs = entered-tables-listed (c .before .before .before .before .before .before .before .before .before .enter .ensures) (c .before .before .before .before .before .enum-told3 .given .1)
+bin-requires c κs =
+    entered-tables-listed (c .before .before .before .before .before .before .before .before .before .before .enter .ensures)
+    (c .before .before .before .before .before .before .enum-told3 .given .1)
 
 returns : tie.Need-returns
 unfolding refusedBy refusedCall takesList takesWork
@@ -34,14 +36,17 @@ bin-spec =
     (λ c. refl)
     (λ c. refl)
     (λ c. refl)
+    (λ c. refl)
     (λ c. search depth 0)
     returns
     (λ c. refl)
     (λ c. refl)
     (λ c. refl)
     (λ c. refl)
+    (λ c. refl)
     (λ c. search depth 0)
     returns-2
+    (λ c. search depth 0)
     (λ c. search depth 0)
     (λ c. search depth 0)
     (λ c. search depth 0)

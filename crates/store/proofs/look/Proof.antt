@@ -1,7 +1,10 @@
 -- `store::look` keeps its promise: each arm of how it began cites its law, and each area keeps its length. Assumes nothing.
+use mathlib.Core.Path.{refl}
 use Rattle.rules.specs.Calls.{refusedBy, refusedCall, takesList, takesWork}
+use Rattle.laws.specs.Verdicts.{bare-did}
+use Rattle.into.specs.Stores.{leavesInto}
 use Rattle.entering.specs.Entered.{entered-tables}
-use Rattle.entering.specs.Calls.{short-arm, flawed-arm, tables-arm}
+use Rattle.entering.specs.Calls.{short-arm, flawed-arm, still-arm}
 use Rattle.store.proofs.look.Statement.{statement}
 use Rattle.store.proofs.look.Tie as tie
 
@@ -17,8 +20,8 @@ unfolding refusedBy takesList
 returns-2 c = search flawed-arm
 
 returns-3 : tie.Need-returns-3
-unfolding takesList
-returns-3 c = search tables-arm
+unfolding takesList leavesInto
+returns-3 c = still-arm (c .before .before .before .before .before .enter .ensures) (c .before .enum-told3 .given .1) refl (bare-did refl (c .look .ensures)) refl
 
 pub look-spec : {M : Type 1} → statement M
 look-spec =

@@ -1,20 +1,20 @@
 -- `store::new` keeps its promise: each arm of how it began cites its law, and each area keeps its length. Assumes nothing.
 use mathlib.Core.Path.{refl}
+use Prim.Native.Nat.{zero-le}
+use native.Mathlib.Omega.{arith}
 use Rattle.rules.specs.Commands.{settles}
 use Rattle.rules.specs.Calls.{refusedBy, refusedCall, takesList, takesWork}
+use Rattle.into.specs.Stores.{leavesInto}
+use Rattle.laws.specs.Verdicts.{bare-did}
 use Rattle.giving.specs.Gave.{giving-of}
 use Rattle.entering.specs.Entered.{entered-tables}
-use Rattle.entering.specs.Calls.{short-arm, flawed-arm, tables-unlisted-arm}
+use Rattle.entering.specs.Calls.{short-arm, flawed-arm, still-unlisted-arm}
 use Rattle.store.proofs.new.Statement.{statement}
 use Rattle.store.proofs.new.Tie as tie
 
-none-free-requires : tie.Need-none-free-requires
-none-free-requires c κs = entered-tables (c .before .before .before .before .before .enter .ensures) (c .before .enum-told3 .given .1) .sized .base .states
-
 new-requires : tie.Need-new-requires
 new-requires c κs =
-    giving-of (entered-tables (c .before .before .before .before .before .before .before .enter .ensures) (c .before .before .before .enum-told3 .given .1))
-    (c .before .none-free .ensures .0) (c .before .none-free .ensures .1)
+    giving-of (entered-tables (c .before .before .before .before .before .enter .ensures) (c .before .enum-told3 .given .1)) zero-le (λ q h. absurd (omega arith))
 
 returns : tie.Need-returns
 unfolding refusedBy refusedCall takesList takesWork
@@ -25,13 +25,11 @@ unfolding refusedBy takesList
 returns-2 c = search flawed-arm
 
 returns-3 : tie.Need-returns-3
-unfolding takesList settles
+unfolding takesList settles leavesInto
 returns-3 c =
-    let ready = entered-tables
-    (c .before .before .before .before .before .before .before .before .before .before .enter .ensures)
-    (c .before .before .before .before .before .before .enum-told3 .given .1) in
-    let did = c .before .before .new .ensures .did ready in
-    search tables-unlisted-arm
+    let entered = c .before .before .before .before .before .before .before .before .enter .ensures in
+    let sound = c .before .before .before .before .enum-told3 .given .1 in
+    still-unlisted-arm entered sound refl refl (bare-did refl (c .before .before .new .ensures .did (entered-tables entered sound))) refl
 
 pub new-spec : {M : Type 1} → statement M
 new-spec =
@@ -41,7 +39,6 @@ new-spec =
     (λ c. c .match .keys1)
     (λ c. c .match .keys2)
     (λ c. c .match .keys3)
-    none-free-requires
     new-requires
     (λ c. refl)
     (λ c. search depth 0)

@@ -1,14 +1,15 @@
 -- `store::release` keeps its promise: each arm of how it began cites its law, and each area keeps its length. Assumes nothing.
 use mathlib.Core.Path.{refl}
 use Rattle.rules.specs.Calls.{refusedBy, refusedCall, takesList, takesWork}
-use Rattle.entering.specs.Entered.{entered-listed}
-use Rattle.entering.specs.Calls.{short-arm, flawed-arm, sound-arm}
+use Rattle.into.specs.Stores.{leavesInto}
+use Rattle.entering.specs.Entered.{entered-by-listed}
+use Rattle.entering.specs.Calls.{short-arm, flawed-arm, still-arm}
 use Rattle.store.proofs.release.Statement.{statement}
 use Rattle.store.proofs.release.Tie as tie
 
 release-requires : tie.Need-release-requires
 release-requires c κs =
-    entered-listed (c .before .before .before .before .before .before .before .before .before .before .before .enter .ensures)
+    entered-by-listed (c .before .before .before .before .before .before .before .before .before .before .before .enter .ensures)
     (c .before .before .before .before .before .before .before .enum-told3 .given .1)
 
 returns : tie.Need-returns
@@ -20,8 +21,8 @@ unfolding refusedBy takesList
 returns-2 c = search flawed-arm
 
 returns-3 : tie.Need-returns-3
-unfolding takesList
-returns-3 c = search sound-arm
+unfolding takesList leavesInto
+returns-3 c = search still-arm
 
 pub release-spec : {M : Type 1} → statement M
 release-spec =

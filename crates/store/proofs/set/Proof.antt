@@ -8,8 +8,8 @@ use Rattle.store.proofs.set.Tie as tie
 
 set-link-requires : tie.Need-set-link-requires
 set-link-requires c κs =
-    entered-tables-listed (c .before .before .before .before .before .before .before .before .before .enter .ensures)
-    (c .before .before .before .before .before .enum-told3 .given .1)
+    entered-tables-listed (c .before .before .before .before .before .before .before .before .before .before .enter .ensures)
+    (c .before .before .before .before .before .before .enum-told3 .given .1)
 
 returns : tie.Need-returns
 unfolding refusedBy refusedCall takesList takesWork
@@ -36,14 +36,17 @@ set-spec =
     (λ c. refl)
     (λ c. refl)
     (λ c. refl)
+    (λ c. refl)
     (λ c. search depth 0)
     returns
     (λ c. refl)
     (λ c. refl)
     (λ c. refl)
     (λ c. refl)
+    (λ c. refl)
     (λ c. search depth 0)
     returns-2
+    (λ c. search depth 0)
     (λ c. search depth 0)
     (λ c. search depth 0)
     (λ c. search depth 0)

@@ -41,9 +41,16 @@ clear-requires c κs =
     let past = c .before .before .before .before .before .before .before .before .before .before .before .before .before .before .before .before .before .before .before .before .before in
     sizes (past .if1 .left) (past .before .sized .ensures) .1 .register
 
+fill-u16-requires-4 : tie.Need-fill-u16-requires-4
+fill-u16-requires-4 c κs =
+    let cleared = c .before .before .before .before in
+    let past = cleared .before .before .before .before .before .before .before .before .before .before .before .before .before .before .before .before .before .before .before .before .before in
+    omega (arith, sizes (past .if1 .left) (past .before .sized .ensures) .1)
+
 returns-2 : tie.Need-returns-2
 returns-2 c =
-    let register = c .before .before .before in
+    let into = c .before .before .before in
+    let register = into .before .before .before .before in
     let counts = register .before .before .before .before in
     let holds = counts .before .before .before .before in
     let leaders = holds .before .before .before .before in
@@ -57,13 +64,14 @@ returns-2 c =
       leaders = leaders .fill-u162 .ensures;
       holds = holds .fill-u163 .ensures;
       counts = counts .fill-u32 .ensures;
-    }) (register .clear .ensures)
+    }) (register .clear .ensures) (into .fill-u164 .ensures)
 
 pub start-spec : {M : Type 1} → statement M
 start-spec =
     tie.close
     (tie.spec
     (λ c κs. tt)
+    (λ c. refl)
     (λ c. refl)
     (λ c. refl)
     (λ c. refl)
@@ -78,7 +86,9 @@ start-spec =
     fill-u16-requires-3
     fill-u32-requires
     clear-requires
+    fill-u16-requires-4
     (λ c κs. tt)
+    (λ c. search depth 0)
     (λ c. search depth 0)
     (λ c. search depth 0)
     (λ c. search depth 0)

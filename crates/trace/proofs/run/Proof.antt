@@ -13,15 +13,15 @@ use Rattle.trace.proofs.run.Statement.{statement}
 use Rattle.trace.proofs.run.Tie as tie
 
 abbrev Inv-loop : tie.InvT-loop
-Inv-loop states₀ links₀ leaders₀ holds₀ counts₀ register₀ list₀ work₀ buf₀ out₀ kept₀ from₀ turns₀ states links leaders holds counts register list work buf out kept from
-    turns =
-    Keeps (storeOf most states links leaders holds counts register) list work buf kept from
-    × Sofar most (storeOf most states links leaders holds counts register) (take kept buf)
+Inv-loop states₀ links₀ leaders₀ holds₀ counts₀ register₀ into₀ list₀ work₀ buf₀ out₀ kept₀ from₀ turns₀
+    states links leaders holds counts register into list work buf out kept from turns =
+    Keeps (storeOf most states links leaders holds counts register into) list work buf kept from
+    × Sofar most (storeOf most states links leaders holds counts register into) (take kept buf)
     × ((length list ≡ 1024) × (length work ≡ 8192) × (length buf ≡ 65536) × (length out ≡ 65536))
 
 abbrev μ-loop : tie.MeasureT-loop
-μ-loop states₀ links₀ leaders₀ holds₀ counts₀ register₀ list₀ work₀ buf₀ out₀ kept₀ from₀ turns₀ states links leaders holds counts register list work buf out kept from
-    turns = turns
+μ-loop states₀ links₀ leaders₀ holds₀ counts₀ register₀ into₀ list₀ work₀ buf₀ out₀ kept₀ from₀ turns₀
+    states links leaders holds counts register into list work buf out kept from turns = turns
 
 loop-holds : tie.Need-loop-holds Inv-loop μ-loop
 unfolding empty emptyTables
@@ -115,12 +115,14 @@ run-spec =
     (λ c. omega arith)
     (λ c. omega arith)
     (λ c. omega arith)
+    (λ c. omega arith)
     turn-requires
     enum-known-next
     sub-turns
     loop-less
     loop-again
     enum-told
+    (λ c. let turned : tie.After-turn Inv-loop μ-loop = search in unfold looped in (omega (arith, turned .turn .kept, looped turned .loop .inv)))
     (λ c. let turned : tie.After-turn Inv-loop μ-loop = search in unfold looped in (omega (arith, turned .turn .kept, looped turned .loop .inv)))
     (λ c. let turned : tie.After-turn Inv-loop μ-loop = search in unfold looped in (omega (arith, turned .turn .kept, looped turned .loop .inv)))
     (λ c. let turned : tie.After-turn Inv-loop μ-loop = search in unfold looped in (omega (arith, turned .turn .kept, looped turned .loop .inv)))

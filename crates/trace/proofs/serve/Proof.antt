@@ -11,12 +11,14 @@ use Rattle.trace.proofs.serve.Statement.{statement}
 use Rattle.trace.proofs.serve.Tie as tie
 
 abbrev Inv-loop : tie.InvT-loop
-Inv-loop text states₀ links₀ leaders₀ holds₀ counts₀ register₀ list₀ work₀ from out₀ at₀ low₀ states links leaders holds counts register list work out at low =
-    Serving (storeOf most states₀ links₀ leaders₀ holds₀ counts₀ register₀) text (storeOf most states links leaders holds counts register) list work at low
+Inv-loop text states₀ links₀ leaders₀ holds₀ counts₀ register₀ into₀ list₀ work₀ from out₀ at₀ low₀
+    states links leaders holds counts register into list work out at low =
+    Serving (storeOf most states₀ links₀ leaders₀ holds₀ counts₀ register₀ into₀) text (storeOf most states links leaders holds counts register into) list work at low
     × ((length list ≡ length list₀) × (length work ≡ length work₀) × (length out ≡ length out₀))
 
 abbrev μ-loop : tie.MeasureT-loop
-μ-loop text states₀ links₀ leaders₀ holds₀ counts₀ register₀ list₀ work₀ from out₀ at₀ low₀ states links leaders holds counts register list work out at low = length text - at
+μ-loop text states₀ links₀ leaders₀ holds₀ counts₀ register₀ into₀ list₀ work₀ from out₀ at₀ low₀
+    states links leaders holds counts register into list work out at low = length text - at
 
 -- places: what was fed, on the way to each need behind it; the turn of the loop before it, and the start
 fed : tie.After-struct-known Inv-loop μ-loop → tie.After-feed Inv-loop μ-loop
@@ -120,9 +122,11 @@ serve-spec =
     (λ c. unfold stopped looped in (omega (arith, stopped c .feed .kept, looped (stopped c) .loop .inv)))
     (λ c. unfold stopped looped in (omega (arith, stopped c .feed .kept, looped (stopped c) .loop .inv)))
     (λ c. unfold stopped looped in (omega (arith, stopped c .feed .kept, looped (stopped c) .loop .inv)))
+    (λ c. unfold stopped looped in (omega (arith, stopped c .feed .kept, looped (stopped c) .loop .inv)))
     returns
     loop-less
     loop-again
+    (λ c. omega (arith, c .before .loop .inv))
     (λ c. omega (arith, c .before .loop .inv))
     (λ c. omega (arith, c .before .loop .inv))
     (λ c. omega (arith, c .before .loop .inv))

@@ -132,8 +132,10 @@ turn-spec =
     (λ c. unfold unwritten in (omega (arith, unwritten c .serve .kept)))
     (λ c. unfold unwritten in (omega (arith, unwritten c .serve .kept)))
     (λ c. unfold unwritten in (omega (arith, unwritten c .serve .kept)))
+    (λ c. unfold unwritten in (omega (arith, unwritten c .serve .kept)))
     returns-2
     (λ c. unfold ended came read in (read (came (ended c)) .read-more .kept .0))
+    (λ c. unfold ended in (omega (arith, ended c .serve .kept)))
     (λ c. unfold ended in (omega (arith, ended c .serve .kept)))
     (λ c. unfold ended in (omega (arith, ended c .serve .kept)))
     (λ c. unfold ended in (omega (arith, ended c .serve .kept)))
@@ -146,6 +148,7 @@ turn-spec =
     returns-3
     carry-requires
     (λ c. unfold carried came read in (omega (arith, c .before .before .carry .kept, read (came (carried (c .before .before))) .read-more .kept)))
+    (λ c. unfold carried in (omega (arith, carried (c .before .before) .serve .kept)))
     (λ c. unfold carried in (omega (arith, carried (c .before .before) .serve .kept)))
     (λ c. unfold carried in (omega (arith, carried (c .before .before) .serve .kept)))
     (λ c. unfold carried in (omega (arith, carried (c .before .before) .serve .kept)))

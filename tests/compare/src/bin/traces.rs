@@ -1,6 +1,7 @@
 //! Writes one long trace to a file, to be timed: of a profile, or of one command over and over.
 
 use compare::author::Author;
+use compare::growth::{beside, chains, times};
 use compare::profiles::{trace, Profile, PROFILES};
 use compare::random::Random;
 use independent::tables::{CAPACITY, NONE};
@@ -8,8 +9,9 @@ use independent::trace::lines;
 use std::process::ExitCode;
 
 const USAGE: &str = "usage: traces --list | traces PROFILE FILE [LINES] [SEED]
-  PROFILE is a name of the list, or `chains of M` with M pieces each. The trace has LINES lines
-  or a few more, 200000 if not given; one of long lines ends at 16 MB.";
+  PROFILE is a name of the list, `chains of M` with M pieces each, or one of `pairs frozen`,
+  `chains of 4 frozen`, `drafts binned` and `bins refused` with ` beside M`, for M live pieces, 16 to
+  1,000. The trace has LINES lines or a few more, 200000 if not given; one of long lines ends at 16 MB.";
 
 /// Lines of a profile that differ; beyond them the trace repeats itself.
 const DIFFERENT: usize = 200_000;
@@ -127,19 +129,6 @@ fn only((name, next): &Only, seed: u64, count: usize) -> Vec<u8> {
     (text.join("\n") + "\n").into_bytes()
 }
 
-/// How many times a part is needed for the whole.
-fn times(whole: usize, part: usize) -> usize {
-    (whole + part - 1) / part
-}
-
-/// Chains of that many pieces, each frozen and let go at once.
-fn chains(size: usize, count: usize) -> Vec<u8> {
-    let mut text = vec!["n".to_string(); size];
-    text.extend((1..size).map(|p| format!("s {} 0 {p}", p - 1)));
-    text.extend(["f 0".to_string(), "r 0".to_string()]);
-    (text.join("\n") + "\n").into_bytes().repeat(times(count, text.len()))
-}
-
 /// A trace of the profile, followed by what empties the store.
 fn emptied(profile: &Profile, seed: u64) -> Vec<u8> {
     let mut author = Author::new(seed);
@@ -170,6 +159,10 @@ fn profile(profile: &Profile, seed: u64, count: usize) -> Vec<u8> {
 fn named(name: &str, seed: u64, count: usize) -> Option<Vec<u8>> {
     if let Some(size) = name.strip_prefix("chains of ").and_then(|size| size.parse().ok()) {
         return (1..=CAPACITY).contains(&size).then(|| chains(size, count));
+    }
+    if let Some((lines, live)) = name.split_once(" beside ") {
+        let live = live.parse().ok().filter(|live| (16..=1_000).contains(live))?;
+        return beside(lines, live, count);
     }
     if let Some(found) = ONLY.iter().find(|(only, _)| *only == name) {
         return Some(only(found, seed, count));

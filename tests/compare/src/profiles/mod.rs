@@ -2,6 +2,7 @@
 
 mod chains;
 mod ends;
+mod into;
 mod keepers;
 mod loops;
 mod misses;
@@ -44,6 +45,8 @@ pub const PROFILES: &[Profile] = &[
     Profile { name: "holds up to 1,000", traces: 1, write: refusals::holds },
     Profile { name: "links set again", traces: 1, write: keepers::set_again },
     Profile { name: "drafts outside a freeze", traces: 1, write: keepers::drafts_outside },
+    Profile { name: "drafts that name each other", traces: 1, write: into::knots },
+    Profile { name: "all links into one draft", traces: 1, write: into::most },
     Profile { name: "many seats", traces: 1, write: seats::many },
     Profile { name: "shapes by many seats", traces: 1, write: seats::shapes },
     Profile { name: "a full register", traces: 1, write: seats::full },

@@ -45,7 +45,8 @@ fn look_by_call(tables: &mut Tables, p: u16) -> String {
     format!("0 {} {leader} {} {}", seen.state, seen.count, seen.holds)
 }
 
-/// Shows that a set comes out as written, by the commands and by the calls, with one register.
+/// Shows that a set comes out as written, by the commands and by the calls, with one register and
+/// the same links into drafts.
 pub fn show(Set(name, n, lines): &Set) -> Pieces {
     let mut pieces = Pieces::empty(*n);
     let mut tables = Tables::empty(*n);
@@ -57,5 +58,6 @@ pub fn show(Set(name, n, lines): &Set) -> Pieces {
         }
     }
     assert_eq!(used(&tables.lend().0), pieces.register, "{name}");
+    assert_eq!(tables.into, pieces.links_into(), "{name}");
     pieces
 }

@@ -20,7 +20,7 @@ pub unsafe extern "C" fn pieces_trace(
     lent(from_raw_parts(trace, trace_len), from_raw_parts_mut(room, room_len))
 }
 
-/// Defines a C function over the six areas of the store, then some more areas and numbers.
+/// Defines a C function over the seven areas of the store, then some more areas and numbers.
 macro_rules! door {
     ($name:ident, [$($area:ident $length:ident $width:ty),*], [$($number:ident),*],
      |$store:ident| $answer:expr) => {
@@ -32,6 +32,7 @@ macro_rules! door {
             n: usize, states: *mut u8, states_len: usize, links: *mut u16, links_len: usize,
             leaders: *mut u16, leaders_len: usize, holds: *mut u16, holds_len: usize,
             counts: *mut u32, counts_len: usize, lines: *mut u16, lines_len: usize,
+            into: *mut u16, into_len: usize,
             $($area: *mut $width, $length: usize,)* $($number: u16),*
         ) -> u64 {
             $(let $area = from_raw_parts_mut($area, $length);)*
@@ -43,6 +44,7 @@ macro_rules! door {
                 holds: from_raw_parts_mut(holds, holds_len),
                 counts: from_raw_parts_mut(counts, counts_len),
                 register: from_raw_parts_mut(lines, lines_len),
+                into: from_raw_parts_mut(into, into_len),
             };
             $answer
         }
