@@ -1,12 +1,17 @@
--- A list whose first entries are 0.
+-- A list whose first entries are 0, and work that is clear.
 use mathlib.Core.Path.{_≡_, sym, ap, _∙_, subst}
 use mathlib.Core.List.{List, _++_}
-use Prim.Native.Nat.{ℕ, _≤_, _<_}
+use Prim.Native.Nat.{ℕ, _*_, _≤_, _<_}
 use lib.ListN.{length, drop, take, replicate, length-replicate, getD-replicate, take-append-drop}
 use lib.Seq.{ext-getD, getD-take, length-take-le}
 use Rattle.rules.specs.Lists.{_!_}
 
--- written over with 0 it is the same
+-- work has at least 8N entries, of which the first 8N are 0
+pub record Clear (n : ℕ) (w : List ℕ) : Type 0 where
+  pub size : 8 * n ≤ length w
+  pub zeros : (i : ℕ) → i < 8 * n → w ! i ≡ 0
+
+-- written over with 0 such a list is the same
 pub front-zeros : (k : ℕ) (w : List ℕ) → k ≤ length w → ((i : ℕ) → i < k → w ! i ≡ 0) → replicate k 0 ++ drop k w ≡ w
 front-zeros k w h z = ap (λ (f : List ℕ). f ++ drop k w) (sym front) ∙ take-append-drop k w
   where

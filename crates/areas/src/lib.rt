@@ -96,15 +96,15 @@ pub fn lowest_free(n: usize, states: &[u8], from: usize) -> usize
     p
 }
 
-// Whether one of the 64 pieces from `from` on has this state.
-pub fn shows(states: &[u8], state: u8, from: usize) -> bool
+// Whether one of the 64 numbers from `from` on is free.
+fn shows(states: &[u8], from: usize) -> bool
     requires { ⌜ from + 64 ≤ length (now states) ⌝ }
-    ensures { λ r. ⌜ Shows (now (states .entry)) state from 64 r ⌝ }
+    ensures { λ r. ⌜ Shows (now (states .entry)) from 64 r ⌝ }
 {
     let mut some = false;
     let mut i: usize = 0;
     while i < 64 {
-        if states[from + i] == state {
+        if states[from + i] == Store::FREE {
             some = true;
         }
         i += 1;
@@ -123,7 +123,7 @@ pub fn none_free(n: usize, states: &[u8], from: usize) -> usize
         if first == Store::FREE {
             return p;
         }
-        if shows(states, 0, p) {
+        if shows(states, p) {
             return p;
         }
         p += 64;

@@ -5,15 +5,14 @@ use mathlib.Core.Bool.{Bool, true, false, not}
 use mathlib.Core.List.{List, [], _∷_, _++_, append-assoc}
 use Prim.Native.Nat.{ℕ, _*_, _≤_}
 use native.Mathlib.Omega.{arith}
-use native.Mathlib.Nat.{le-refl}
 use lib.Dec.{T, eqb, leb, le→leb}
 use lib.ListN.{length, replicate, length-replicate}
-use Rattle.rules.specs.Tests.{_or_, _&_, pick}
+use Rattle.rules.specs.Tests.{_or_, pick}
 use Rattle.rules.specs.Limits.{most, none}
-use Rattle.rules.specs.Tables.{Store, isSoundStore, empty}
+use Rattle.rules.specs.Tables.{Store, empty}
 use Rattle.rules.specs.Commands.{isLook, pieceOf, valueOf, Verdict, accepted, refused, verdict, settled, stepTo, freedBy}
 use Rattle.rules.specs.Calls.{numberOf, Reply, answered, saw, seenAt, doneBy, acceptedBy, refusedBy, does, takesList, takesWork, isSizedStore, isLent}
-use Rattle.rules.specs.Calls.{areasOf, judge, cleared, acceptedCall, ended, outcomeOf, Outcome, Promise, refusedCall}
+use Rattle.rules.specs.Calls.{judge, cleared, acceptedCall, ended, outcomeOf, Promise, refusedCall}
 use Rattle.rules.specs.Trace.{answerLine, lookLine, linesOf, says, answerTo, lineBy, acceptedLine, storeAfter, outputOf, endLine, traceAt, trace}
 use Rattle.rules.specs.History.{Event, event, isAccepted, History, begun, refusing, accepting, listed, Listing}
 use Rattle.rules.specs.Calling.{lentTo, cameOf, callOf, callsOf, leftBy, lineIn, lineOf, answerOf, answersOf}

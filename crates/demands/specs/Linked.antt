@@ -2,7 +2,6 @@
 use mathlib.Core.Path.{_≡_, refl, sym, ap, _∙_, subst}
 use mathlib.Core.Logic.{_↔_}
 use mathlib.Core.Bool.{Bool, true, false, not}
-use mathlib.Core.List.{List, []}
 use Prim.Native.Nat.{ℕ, _<_}
 use native.Mathlib.Omega.{arith}
 use lib.ListN.{length}
@@ -10,10 +9,10 @@ use lib.Dec.{T, ltb, ltb→lt, lt→ltb}
 use Rattle.rules.specs.Tests.{pick}
 use Rattle.rules.specs.Limits.{none}
 use Rattle.rules.specs.Lists.{_!_}
-use Rattle.rules.specs.Tables.{Base, Store, state, isFree, isFrozen}
+use Rattle.rules.specs.Tables.{Store, state, isFree, isFrozen}
 use Rattle.rules.specs.Words.{Draft}
 use Rattle.rules.specs.Commands.{Verdict, accepted, refused, firstOf, isLinked, tableRefusals, freedBy, valueOf, verdict}
-use Rattle.rules.specs.Calls.{answered, does, Areas, Reply, Outcome, Promise, judge, ended, outcomeOf, acceptedCall, cleared, acceptedBy, doneBy, refusedCall, refusedBy, isLent}
+use Rattle.rules.specs.Calls.{answered, does, Areas, Outcome, Promise, ended, outcomeOf, acceptedCall, cleared, acceptedBy, doneBy, refusedCall, refusedBy, isLent}
 use Rattle.rules.specs.declared.Refusal.the-variants.{Linked}
 use Rattle.rules.specs.declared.Command.the-variants.{Bin}
 use Rattle.rules.specs.declared.Answer.the-variants.{Done, Refused}

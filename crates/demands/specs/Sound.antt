@@ -1,11 +1,9 @@
 -- The test of a sound store says what the words say, and the empty store is sound.
-use mathlib.Core.Path.{_≡_, refl, sym, ap, _∙_}
-use mathlib.Core.Bool.{Bool}
-use Prim.Native.Nat.{ℕ, _+_, _*_, _≤_, _<_}
+use mathlib.Core.Path.{_≡_, sym, _∙_}
+use Prim.Native.Nat.{ℕ, _+_, _*_, _≤_}
 use native.Mathlib.Omega.{arith}
 use lib.Dec.{T, eqb, eqb→eq}
 use lib.ListN.{length, getD, replicate, length-replicate, getD-replicate}
-use Rattle.rules.specs.Tests.{_&_}
 use Rattle.rules.specs.Limits.{most, none, entries}
 use Rattle.rules.specs.Lists.{_!_}
 use Rattle.rules.specs.Below.{every}

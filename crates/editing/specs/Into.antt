@@ -5,12 +5,12 @@ use mathlib.Core.Bool.{Bool, true}
 use mathlib.Core.List.{List}
 use Prim.Native.Nat.{ℕ, _+_, _*_, _/_, _≤_, _<_}
 use native.Mathlib.Omega.{arith}
-use lib.Dec.{T, T-not, eqb, eqb→eq}
-use lib.ListN.{length, getD, set}
+use lib.Dec.{T-not, eqb, eqb→eq}
+use lib.ListN.{getD, set}
 use Rattle.rules.specs.Lists.{_!_}
 use Rattle.rules.specs.Limits.{none}
 use Rattle.rules.specs.Tests.{pick}
-use Rattle.rules.specs.Tables.{Base, Tables, state, finish}
+use Rattle.rules.specs.Tables.{Base, Tables, finish}
 use Rattle.rules.specs.Words.{Well}
 use Rattle.rules.specs.Commands.{Verdict, accepted, withLinks, freeAll, gone, edit, settles, after, nextTables}
 use Rattle.rules.specs.Calls.{Reply, Ready}

@@ -10,8 +10,8 @@ use lib.Seq.{getD-take, take-append-seam}
 use Rattle.rules.specs.Tests.{_&_}
 use Rattle.rules.specs.Tables.{Store, storeBy, isSoundStore}
 use Rattle.rules.specs.Words.{SizedStore}
-use Rattle.rules.specs.Calls.{isSizedStore, clear, Clear, Ready, ReadyStore}
-use Rattle.areas.specs.Filled.{front-zeros}
+use Rattle.rules.specs.Calls.{isSizedStore, clear, Ready, ReadyStore}
+use Rattle.areas.specs.Filled.{Clear, front-zeros}
 use Rattle.laws.specs.Tests.{and-both, and-left, and-right}
 use Rattle.laws.specs.Calls.{sized-store→, →sized-store, ready-tables}
 use Rattle.into.specs.Stores.{IntoBase, into-ready, ready-by}
@@ -87,7 +87,7 @@ module _ {s : Store} {room : ℕ} {work work′ : List ℕ} {r : Entry} (x : Ent
       let z = fits→ (b .0) in
       record { least = z .least; sized = z .sized; sound = sound-store→ s (z .sized) (b .1) }
 
-  pub entered-listed : ReadyStore s × (s .tables .base .n ≤ room)
+  entered-listed : ReadyStore s × (s .tables .base .n ≤ room)
   entered-listed = (entered-ready, fits→ (began-by x is .0) .listed)
 
   entered-clear : Clear (s .tables .base .n) work′

@@ -1,24 +1,25 @@
 -- The drafts that p reaches, assembled: they stand in the queue, each once, with their leaders found.
-use mathlib.Core.Path.{_≡_, refl, sym, ap, _∙_, subst}
+use mathlib.Core.Path.{_≡_, sym, ap, _∙_, subst}
 use mathlib.Core.Logic.{_⊎_, inl, inr, ⊎-elim}
 use mathlib.Core.List.{List}
 use Prim.Native.Nat.{ℕ, _+_, _-_, _*_, _≤_, _<_}
 use native.Mathlib.Omega.{arith}
-use lib.ListN.{length, drop}
+use lib.ListN.{length}
 use lib.Seq.{getD-drop}
 use Rattle.rules.specs.Lists.{_!_}
 use Rattle.laws.specs.Numbers.{eq-or}
 use Rattle.paths.specs.Ground.{linkIn, Lead}
 use Rattle.groups.specs.Grouped.{ReachedFrom}
 use Rattle.gathering.specs.Walked.{Gathered}
-use Rattle.recounting.specs.Fresh.{Stands, stands-or, Queued}
+use Rattle.recounting.specs.Standing.{Standing}
+use Rattle.recounting.specs.Taken.{Queued}
 use Rattle.freezing.specs.Found.{Found}
 
 pub record Assembled (n : ℕ) (states links leaders : List ℕ) (p : ℕ) (leaders′ work : List ℕ) (size : ℕ) : Type 0 where
-  pub all : (q : ℕ) → q < n → ReachedFrom n states links 1 p q → Stands n work size q
-  pub «only» : (q : ℕ) → q < n → Stands n work size q → ReachedFrom n states links 1 p q
+  pub all : (q : ℕ) → q < n → ReachedFrom n states links 1 p q → Standing n work size q
+  pub «only» : (q : ℕ) → q < n → Standing n work size q → ReachedFrom n states links 1 p q
   pub leads : (q : ℕ) → q < n → ReachedFrom n states links 1 p q → Lead n (linkIn links) q (work ! (2 * n + q))
-  pub left : (q : ℕ) → q < n → (Stands n work size q → ⊥) → leaders′ ! q ≡ leaders ! q
+  pub left : (q : ℕ) → q < n → (Standing n work size q → ⊥) → leaders′ ! q ≡ leaders ! q
   pub leaders-n : length leaders′ ≡ length leaders
   pub queued : Queued n work size
 

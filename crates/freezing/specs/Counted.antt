@@ -8,11 +8,11 @@ use lib.ListN.{length, set}
 use Rattle.rules.specs.Limits.{none}
 use Rattle.rules.specs.Reach.{here}
 use Rattle.rules.specs.Tables.{Base, Tables, state, linkAt, holdsOf}
-use Rattle.rules.specs.Words.{Frozen, Reaches, Well, wfree, wdraft, wfrozen}
+use Rattle.rules.specs.Words.{Frozen, Reaches}
 use Rattle.rules.specs.Lists.{_!_}
 use Rattle.laws.specs.Words.{end-below}
 use Rattle.laws.specs.Passes.{draft-of}
-use Rattle.laws.specs.Numbers.{eq-or, lt-or}
+use Rattle.laws.specs.Numbers.{lt-or}
 use Rattle.paths.specs.Classes.{frozen-stays}
 use Rattle.tallies.specs.Sums.{getD-any}
 use Rattle.tallies.specs.Tally.{label, CountsMatch}
@@ -20,7 +20,8 @@ use Rattle.tallies.specs.Moves.{tally-most, match-hold}
 use Rattle.tallies.specs.Exact.{Exact, label-past, label-frozen}
 use Rattle.tallies.specs.Stores.{wells-of, exact-of, match-of, holds-most, counts-most}
 use Rattle.into.specs.Stores.{IntoBase}
-use Rattle.recounting.specs.Fresh.{Stands, freshLeaders, stands-or, fresh-n, fresh-on, fresh-off, Taking, Taken}
+use Rattle.recounting.specs.Standing.{Standing, freshLeaders, standing-or, fresh-n, fresh-on, fresh-off}
+use Rattle.recounting.specs.Taken.{Taking, Taken}
 use Rattle.freezing.specs.Freezable.{Freezable}
 use Rattle.freezing.specs.Assembled.{Assembled}
 use Rattle.tallies.specs.Joined.{Joined, Apart, tally-joined}
@@ -36,14 +37,14 @@ module _ {s : Tables} {work : List ℕ} {p : ℕ} (d : Freezable s work p) {lead
   small : n ≤ 1024
   small = d .ready .sized .base .most
 
-  was-draft : (q : ℕ) → q < n → Stands n work′ size q → state b q ≡ 1
+  was-draft : (q : ℕ) → q < n → Standing n work′ size q → state b q ≡ 1
   unfolding state
   was-draft q h e = m .«only» q h e .0
 
-  lead-below : (q : ℕ) → q < n → Stands n work′ size q → work′ ! (2 * n + q) < n
+  lead-below : (q : ℕ) → q < n → Standing n work′ size q → work′ ! (2 * n + q) < n
   lead-below q h e = end-below h (m .leads q h (m .«only» q h e) .there)
 
-  back : (q : ℕ) → q < n → Stands n work′ size q → Reaches b (work′ ! (2 * n + q)) q
+  back : (q : ℕ) → q < n → Standing n work′ size q → Reaches b (work′ ! (2 * n + q)) q
   unfolding linkAt
   back q h e = m .leads q h (m .«only» q h e) .back
 
@@ -51,7 +52,7 @@ module _ {s : Tables} {work : List ℕ} {p : ℕ} (d : Freezable s work p) {lead
   old = exact-of s (d .ready)
 
   -- a leader that was found leads no frozen piece
-  leads-none : (t q : ℕ) → t < n → q < n → (Stands n work′ size t → ⊥) → Stands n work′ size q → leaders₁ ! t ≡ work′ ! (2 * n + q) → ⊥
+  leads-none : (t q : ℕ) → t < n → q < n → (Standing n work′ size t → ⊥) → Standing n work′ size q → leaders₁ ! t ≡ work′ ! (2 * n + q) → ⊥
   leads-none t q h k f e y =
       let L : ℕ = work′ ! (2 * n + q) in
       let x : label (s .leaders) t ≡ L = getD-any (s .leaders) t none 0 (omega (arith, d .ready .sized .leaders)) ∙ sym (m .left t h f) ∙ y in
@@ -85,15 +86,15 @@ module _ {s : Tables} {work : List ℕ} {p : ℕ} (d : Freezable s work p) {lead
     entry l q e h = getD-any l q none 0 (omega arith)
 
     joined : (q : ℕ) → Joined (s .leaders) (freshLeaders n work′ size) leaders′ q
-    joined q = ⊎-elim (λ h. ⊎-elim (λ e. inr (on h e)) (λ f. inl (off h f)) (stands-or n work′ size q)) (λ h. inl (past h)) (lt-or q n)
+    joined q = ⊎-elim (λ h. ⊎-elim (λ e. inr (on h e)) (λ f. inl (off h f)) (standing-or n work′ size q)) (λ h. inl (past h)) (lt-or q n)
       where
-        on : q < n → Stands n work′ size q → (label leaders′ q ≡ label (freshLeaders n work′ size) q) × (label (s .leaders) q ≡ none)
+        on : q < n → Standing n work′ size q → (label leaders′ q ≡ label (freshLeaders n work′ size) q) × (label (s .leaders) q ≡ none)
         on h e = (
           entry leaders′ q leaders-size h ∙ t .made .on q h e .1 ∙ sym (fresh-on n work′ size q h e),
           old .others q h (λ z. let y = was-draft q h e in omega arith),
         )
 
-        off : q < n → (Stands n work′ size q → ⊥) → (label leaders′ q ≡ label (s .leaders) q) × (label (freshLeaders n work′ size) q ≡ none)
+        off : q < n → (Standing n work′ size q → ⊥) → (label leaders′ q ≡ label (s .leaders) q) × (label (freshLeaders n work′ size) q ≡ none)
         off h f = (
           entry leaders′ q leaders-size h ∙ t .made .off q f .1 ∙ m .left q h f ∙ sym (entry (s .leaders) q (d .ready .sized .leaders) h),
           fresh-off n work′ size q h f,
@@ -106,14 +107,14 @@ module _ {s : Tables} {work : List ℕ} {p : ℕ} (d : Freezable s work p) {lead
     apart : Apart n (s .leaders) (freshLeaders n work′ size)
     apart a q L h x y =
         ⊎-elim
-        (λ k. ⊎-elim (λ e. on k e) (λ f. off k f) (stands-or n work′ size q))
+        (λ k. ⊎-elim (λ e. on k e) (λ f. off k f) (standing-or n work′ size q))
         (λ k. omega (arith, label-past n (freshLeaders n work′ size) q (fresh-n n work′ size) k, small))
         (lt-or q n)
       where
-        off : q < n → (Stands n work′ size q → ⊥) → ⊥
+        off : q < n → (Standing n work′ size q → ⊥) → ⊥
         off k f = omega (arith, fresh-off n work′ size q k f, small)
 
-        on : q < n → Stands n work′ size q → ⊥
+        on : q < n → Standing n work′ size q → ⊥
         on k e =
             let f : Frozen b L = subst (Frozen b) x (old .leads a (label-frozen b (s .leaders) old a (omega arith)) .member .frozen) in
             let is : L ≡ work′ ! (2 * n + q) = sym y ∙ fresh-on n work′ size q k e in
@@ -122,7 +123,7 @@ module _ {s : Tables} {work : List ℕ} {p : ℕ} (d : Freezable s work p) {lead
             let z = was-draft q k e in
             omega arith
 
-    bare-draft : (q : ℕ) → q < n → Stands n work′ size q → b .holds ! q ≡ 0
+    bare-draft : (q : ℕ) → q < n → Standing n work′ size q → b .holds ! q ≡ 0
     unfolding holdsOf
     bare-draft q h e = draft-of b q (wells-of s (d .ready) q h) (was-draft q h e) .holds
 
@@ -131,14 +132,14 @@ module _ {s : Tables} {work : List ℕ} {p : ℕ} (d : Freezable s work p) {lead
         ⊎-elim
         (λ e. inr (bare-draft q h e))
         (λ f. inl (entry leaders′ q leaders-size h ∙ t .made .off q f .1 ∙ m .left q h f ∙ sym (entry (s .leaders) q (d .ready .sized .leaders) h)))
-        (stands-or n work′ size q)
+        (standing-or n work′ size q)
 
     counted : CountsMatch n (b .links) (b .holds) leaders′ counts′
     counted L h =
         let x = match-of s (d .ready) L h in
         omega (arith, t .counted L h, tally-joined n (s .leaders) (freshLeaders n work′ size) leaders′ small joined apart (b .links) (b .holds) bare L h)
 
-    fresh-p : Stands n work′ size p
+    fresh-p : Standing n work′ size p
     fresh-p = m .all p (d .below) (d .is, here)
 
     -- the leader of p is a piece, and its count has room

@@ -1,7 +1,7 @@
 -- Freeze of a draft: what the search finished, turned, is what the rules freeze, with the leaders and counts of the finished store.
 use mathlib.Core.Path.{_≡_, sym, ap, _∙_, subst}
 use mathlib.Core.List.{List}
-use mathlib.Core.Logic.{inr, ⊎-elim}
+use mathlib.Core.Logic.{⊎-elim}
 use mathlib.Core.Bool.{not}
 use Prim.Native.Nat.{ℕ, _<_}
 use native.Mathlib.Omega.{arith}
@@ -27,7 +27,8 @@ use Rattle.tallies.specs.Tally.{label, CountsMatch}
 use Rattle.tallies.specs.Exact.{Exact}
 use Rattle.tallies.specs.Stores.{good-of, exact-of}
 use Rattle.tallies.specs.Finished.{finished}
-use Rattle.recounting.specs.Fresh.{Stands, MadeFrozen}
+use Rattle.recounting.specs.Standing.{Standing}
+use Rattle.recounting.specs.Taken.{MadeFrozen}
 use Rattle.freezing.specs.Freezable.{Freezable}
 use Rattle.freezing.specs.Assembled.{Assembled}
 
@@ -52,11 +53,11 @@ module _ {s : Tables} {work : List ℕ} {p : ℕ} (d : Freezable s work p) where
   module _ {leaders₁ work′ : List ℕ} {size : ℕ} {states′ leaders′ : List ℕ}
       (m : Assembled (s .base .n) (s .base .states) (s .base .links) (s .leaders) p leaders₁ work′ size)
       (t : MadeFrozen (s .base .n) (s .base .states) leaders₁ work′ size states′ leaders′) where
-    finds : (q : ℕ) → q < n → T (isDraft b q & reaches b p q) → Stands n work′ size q
+    finds : (q : ℕ) → q < n → T (isDraft b q & reaches b p q) → Standing n work′ size q
     unfolding linkAt state
     finds q h u = m .all q h (isDraft→ b q h (and-left (isDraft b q) (reaches b p q) u) .is, reaches→ b p q (and-right (isDraft b q) (reaches b p q) u))
 
-    turns : (q : ℕ) → q < n → Stands n work′ size q → T (isDraft b q & reaches b p q)
+    turns : (q : ℕ) → q < n → Standing n work′ size q → T (isDraft b q & reaches b p q)
     unfolding linkAt state
     turns q h e = let r = m .«only» q h e in and-both (isDraft b q) (reaches b p q) (→isDraft b q (r .0)) (→reaches b p q h (r .1))
 

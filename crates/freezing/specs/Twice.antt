@@ -8,7 +8,7 @@ use Rattle.rules.specs.Lists.{_!_}
 use Rattle.rules.specs.Register.{heldBy}
 use Rattle.rules.specs.Tables.{Store, tablesOf, storeBy, state}
 use Rattle.rules.specs.Words.{Frozen}
-use Rattle.rules.specs.Commands.{Verdict, accepted, refused, firstOf, isAgain, settles, freedBy, valueOf, verdict, nextStore}
+use Rattle.rules.specs.Commands.{Verdict, accepted, refused, firstOf, isAgain, settles, freedBy, valueOf}
 use Rattle.rules.specs.Calls.{answered, acceptedBy, doneBy, listing, fresh, effect, effected, effectOf, ReadyStore, Did}
 use Rattle.rules.specs.declared.Refusal.{Refusal}
 use Rattle.rules.specs.declared.Command.the-variants.{Freeze}

@@ -15,9 +15,10 @@ use Rattle.paths.specs.Classes.{drafts-closed}
 use Rattle.tallies.specs.Sums.{getD-any}
 use Rattle.tallies.specs.Stores.{wells-of, exact-of}
 use Rattle.into.specs.Into.{Into}
-use Rattle.gathering.specs.Gathered.{Gathering}
+use Rattle.gathering.specs.Queue.{Gathering}
 use Rattle.gathering.specs.Walked.{Gathered}
-use Rattle.recounting.specs.Fresh.{stands-or, Taking, Taken}
+use Rattle.recounting.specs.Standing.{standing-or}
+use Rattle.recounting.specs.Taken.{Taking, Taken}
 use Rattle.freezing.specs.Freezable.{Freezable}
 use Rattle.freezing.specs.Found.{Findable, Found}
 use Rattle.freezing.specs.Assembled.{Assembled, queue-at, assembled, gathered-alone}
@@ -104,9 +105,9 @@ module _ {s : Tables} {work : List ℕ} {p : ℕ} (d : Freezable s work p) where
           drafts = λ q h e. ⊎-elim
               (λ w. absurd (let z = t .made .on q h w .0 in omega arith))
               (λ w. t .kept q w ∙ x .drafts q h (sym (t .made .off q w .0) ∙ e))
-              (stands-or n work₂ size q);
+              (standing-or n work₂ size q);
           others = λ q h e. ⊎-elim
               (λ w. t .emptied q h w)
               (λ w. t .kept q w ∙ x .others q h (λ y. e (t .made .off q w .0 ∙ y)))
-              (stands-or n work₂ size q);
+              (standing-or n work₂ size q);
         }

@@ -1,3 +1,4 @@
 pub mod Put
-pub mod Gathered
+pub mod Queue
+pub mod Looked
 pub mod Walked

@@ -1,7 +1,8 @@
 // The drafts that a draft reaches, gathered in a queue: what a freeze touches, and nothing else.
 ghost use Rattle.gathering.specs.Put.{Putting, Put};
-ghost use Rattle.gathering.specs.Gathered.{Gathering};
-ghost use Rattle.gathering.specs.Walked.{Looking, LookedAt, Gathered};
+ghost use Rattle.gathering.specs.Queue.{Gathering};
+ghost use Rattle.gathering.specs.Looked.{Looking, LookedAt};
+ghost use Rattle.gathering.specs.Walked.{Gathered};
 use rules::Store;
 
 // Puts t at the tail of the queue, if it is a draft that does not stand there yet. Gives the new tail.

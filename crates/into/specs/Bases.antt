@@ -1,7 +1,7 @@
 -- What the commands do to the links into each draft, over the base.
-use mathlib.Core.Path.{_≡_, refl, sym, ap, _∙_, subst}
-use mathlib.Core.Logic.{_⊎_, inl, inr, ⊎-elim}
-use mathlib.Core.Bool.{Bool, true, false, not}
+use mathlib.Core.Path.{_≡_, sym, ap, _∙_}
+use mathlib.Core.Logic.{_⊎_, ⊎-elim}
+use mathlib.Core.Bool.{Bool, not}
 use mathlib.Core.List.{List}
 use Prim.Native.Nat.{ℕ, _+_, _*_, _/_, _%_, _≤_, _<_}
 use native.Mathlib.Omega.{arith}
@@ -9,17 +9,15 @@ use lib.Dec.{T}
 use lib.ListN.{length, set}
 use Rattle.rules.specs.Lists.{_!_}
 use Rattle.rules.specs.Limits.{none}
-use Rattle.rules.specs.Tests.{_&_, pick}
 use Rattle.rules.specs.Tables.{Base, state, isFrozen, isKept, linkAt}
-use Rattle.rules.specs.Words.{Frozen, Live, Well, wfree, wdraft, wfrozen}
-use Rattle.rules.specs.Commands.{freeAll, gone, settles, edit, after}
-use Rattle.rules.specs.declared.Command.{Command}
+use Rattle.rules.specs.Words.{Well, wfree, wdraft, wfrozen}
+use Rattle.rules.specs.Commands.{freeAll, gone}
 use Rattle.laws.specs.Tests.{and-left}
 use Rattle.laws.specs.Below.{T-dec}
 use Rattle.laws.specs.Words.{isFrozen→}
-use Rattle.laws.specs.Numbers.{eq-or, lt-or, set-cases}
+use Rattle.laws.specs.Numbers.{set-cases}
 use Rattle.laws.specs.Settle.{state-kept, link-kept, freed-well}
-use Rattle.into.specs.Named.{hit, namedBy, hit-off, named-same, named-none}
+use Rattle.into.specs.Named.{hit, hit-off, named-same, named-none}
 use Rattle.into.specs.Into.{Into}
 
 -- the same drafts, and the same of them named

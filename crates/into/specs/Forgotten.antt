@@ -8,7 +8,7 @@ use lib.ListN.{length, set, length-set}
 use lib.Seq.{getD-set-other}
 use Rattle.rules.specs.Lists.{_!_}
 use Rattle.rules.specs.Limits.{none}
-use Rattle.laws.specs.Numbers.{eq-or, set-cases}
+use Rattle.laws.specs.Numbers.{set-cases}
 use Rattle.into.specs.Into.{Into}
 use Rattle.into.specs.Moves.{Takable, Less, Followable, Followed, more-past, more-takable, follows}
 

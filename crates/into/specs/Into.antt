@@ -1,27 +1,27 @@
 -- The links into each draft, over states and links.
 use mathlib.Core.Path.{_≡_, refl, sym, ap, _∙_, subst}
 use mathlib.Core.Logic.{⊎-elim}
-use mathlib.Core.Bool.{Bool, true, false, not}
+use mathlib.Core.Bool.{not}
 use mathlib.Core.List.{List}
 use Prim.Native.Nat.{ℕ, _+_, _*_, _/_, _%_, _≤_, _<_}
 use native.Mathlib.Omega.{arith}
 use lib.Dec.{T, T-not, eqb, ltb, eqb→eq, ltb→lt, lt→ltb}
-use lib.ListN.{length, getD}
+use lib.ListN.{length}
 use lib.Seq.{ext-getD}
-use Rattle.rules.specs.Tests.{_&_, onlyIf}
-use Rattle.rules.specs.Below.{any, sum}
+use Rattle.rules.specs.Tests.{_&_}
+use Rattle.rules.specs.Below.{any}
 use Rattle.rules.specs.Lists.{_!_}
 use Rattle.rules.specs.Tables.{Base, Store, storeOn, storeBy, state, isDraft, linkAt, intoEntry, intoOf}
 use Rattle.rules.specs.Words.{SizedStore, SoundStore}
 use Rattle.rules.specs.Commands.{isLinked}
 use Rattle.laws.specs.Tests.{and-both, and-left, and-right, same-test}
-use Rattle.laws.specs.Below.{T-dec, some→, →some, getD-table, length-table}
+use Rattle.laws.specs.Below.{some→, →some, getD-table, length-table}
 use Rattle.laws.specs.Words.{eqb-of, neqb-of}
 use Rattle.laws.specs.Counts.{sum-pos}
-use Rattle.laws.specs.Numbers.{eq-or, lt-or}
+use Rattle.laws.specs.Numbers.{eq-or}
 use Rattle.tallies.specs.Sums.{onlyIf-true, onlyIf-false}
 use borrow.Author.Tests.{eq-eqb, ne-eqb}
-use Rattle.into.specs.Named.{hit, named, namedBy, hit-on, hit-pos, named-counts, named-most, named-is}
+use Rattle.into.specs.Named.{named, namedBy, hit-on, hit-pos, named-counts, named-most, named-is}
 
 -- for a draft the link places of other pieces that name it; else 0
 pub record Into (n : ℕ) (states links into : List ℕ) : Type 0 where

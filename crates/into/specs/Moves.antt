@@ -6,8 +6,8 @@ use Prim.Native.Nat.{ℕ, _+_, _-_, _*_, _/_, _≤_, _<_}
 use native.Mathlib.Omega.{arith}
 use lib.ListN.{length, set, length-set}
 use Rattle.rules.specs.Lists.{_!_}
-use Rattle.laws.specs.Numbers.{eq-or, lt-or, set-cases}
-use Rattle.into.specs.Named.{hit, namedBy, hit-on, hit-off, hit-own, named-moves}
+use Rattle.laws.specs.Numbers.{eq-or, set-cases}
+use Rattle.into.specs.Named.{hit, hit-on, hit-off, hit-own, named-moves}
 use Rattle.into.specs.Into.{Into, into-most, into-some}
 
 -- the areas in their lengths, and no entry is at its end

@@ -8,7 +8,7 @@ use native.Mathlib.Omega.{arith}
 use lib.Dec.{eqb}
 use lib.ListN.{length, set}
 use lib.Seq.{getD-set-same, getD-set-other}
-use borrow.Author.Tests.{eq-eqb, ne-eqb, eqb-true}
+use borrow.Author.Tests.{eq-eqb, ne-eqb}
 use Rattle.rules.specs.Tests.{_&_, onlyIf}
 use Rattle.rules.specs.Below.{sum}
 use Rattle.rules.specs.Lists.{_!_}
@@ -17,7 +17,7 @@ use Rattle.laws.specs.Below.{sum-change}
 use Rattle.laws.specs.Counts.{sum-most}
 use Rattle.laws.specs.Kept.{sum-term}
 use Rattle.laws.specs.Numbers.{eq-or}
-use Rattle.tallies.specs.Sums.{sum-cong, sum-zero, onlyIf-true, onlyIf-false, onlyIf-pos, onlyIf-most}
+use Rattle.tallies.specs.Sums.{sum-cong, sum-zero, onlyIf-true, onlyIf-false, onlyIf-most}
 use Rattle.tallies.specs.Exact.{sum-flat}
 
 -- 1 where t is p, and r, which names it, is another piece

@@ -3,15 +3,13 @@ use mathlib.Core.Path.{_≡_, refl, sym, ap, _∙_, subst}
 use mathlib.Core.Logic.{⊎-elim}
 use mathlib.Core.Bool.{Bool, true, false}
 use mathlib.Core.List.{List}
-use Prim.Native.Nat.{ℕ, _+_, _*_, _/_, _%_, _≤_, _<_}
+use Prim.Native.Nat.{ℕ, _+_, _*_, _/_, _%_, _<_}
 use native.Mathlib.Omega.{arith}
-use lib.Dec.{T}
-use lib.ListN.{length}
 use Rattle.rules.specs.Lists.{_!_}
-use Rattle.rules.specs.Tests.{_or_, pick}
-use Rattle.rules.specs.Tables.{Base, Tables, Store, storeOn, storeBy, state, isFrozen, linkAt, finish}
+use Rattle.rules.specs.Tests.{_or_}
+use Rattle.rules.specs.Tables.{Base, Tables, storeOn, storeBy, state, linkAt, finish}
 use Rattle.rules.specs.Words.{SizedBase, Live, Well, wfree, wdraft, wfrozen}
-use Rattle.rules.specs.Commands.{Verdict, accepted, refused, isFreeze, isSet, isBin, meant, withStates, withHolds, oneMore, oneLess, firstFree, edit, settles, after}
+use Rattle.rules.specs.Commands.{Verdict, accepted, refused, isFreeze, meant, withStates, withHolds, oneMore, oneLess, firstFree, edit, settles, after}
 use Rattle.rules.specs.Commands.{verdict, nextTables, nextStore}
 use Rattle.rules.specs.Calls.{Reply, Effect, effect, effected, effectOf, ReadyStore, Did}
 use Rattle.rules.specs.declared.Command.{Command}

@@ -9,7 +9,7 @@ use lib.Seq.{ext-getD}
 use Rattle.rules.specs.Tests.{_or_, _&_}
 use Rattle.laws.specs.Tests.{or-left, or-right, or-cases, and-both, and-left, and-right}
 use Rattle.rules.specs.Limits.{none}
-use Rattle.rules.specs.Below.{every, table}
+use Rattle.rules.specs.Below.{table}
 use Rattle.laws.specs.Below.{T-dec, pick-true, pick-false, every→, →every, getD-table, length-table}
 use Rattle.rules.specs.Tables.{tablesOn, Base, Tables, state, isFree, isDraft, isFrozen, isLive, linkAt, holdsOf, leaderOf, countOf}
 use Rattle.rules.specs.Tables.{isKept, leaderEntry, countEntry, finish, allFour, wellFree, wellDraft, wellFrozen, well, soundAt, isSound}

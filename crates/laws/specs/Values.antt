@@ -7,7 +7,7 @@ use Rattle.rules.specs.Tests.{pick}
 use Rattle.rules.specs.Limits.{none}
 use Rattle.rules.specs.Tables.{state, holdsOf, isSoundStore}
 use Rattle.rules.specs.Commands.{isLook, pieceOf, Verdict, accepted, refused, freedBy, valueOf}
-use Rattle.rules.specs.Calls.{Call, start, does, check, Areas, numberOf, Values, SeenValues, CheckedValues, Reply, answered, saw, checked, Numbers, values, seenValues}
+use Rattle.rules.specs.Calls.{Call, start, does, check, Areas, numberOf, answered, saw, checked, Numbers, values, seenValues}
 use Rattle.rules.specs.Calls.{checkedValues, numbersOf, Outcome, refusedBy, refusedCall, seenAt, doneBy, acceptedBy, judge, cleared, acceptedCall, ended, outcomeOf, Promise}
 use Rattle.rules.specs.declared.Refusal.{Refusal}
 use Rattle.rules.specs.declared.Command.{Command}

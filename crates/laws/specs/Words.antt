@@ -9,7 +9,7 @@ use Rattle.rules.specs.Tests.{_or_, _&_}
 use Rattle.laws.specs.Tests.{or-left, or-right, or-cases, and-both, and-left, and-right}
 use Rattle.rules.specs.Below.{lowest}
 use Rattle.laws.specs.Below.{some→, →some, lowest-is}
-use Rattle.rules.specs.Reach.{Reach, here, chain, reachb}
+use Rattle.rules.specs.Reach.{Reach, here, chain}
 use Rattle.laws.specs.Reach.{reachb→Reach, Reach→reachb, reachb-below}
 use Rattle.rules.specs.Tables.{Base, state, isDraft, isFrozen, linkAt, holdsOf, reaches, inGroup, leaderOf, isRoot}
 use Rattle.rules.specs.Tables.{isKept}

@@ -1,5 +1,4 @@
 -- What obeying a command means: what stands before it and again after it, and the number below which nothing is then free.
-use mathlib.Core.Path.{_≡_}
 use mathlib.Core.List.{List}
 use Prim.Native.Nat.{ℕ, _+_, _*_, _≤_, _<_}
 use lib.Dec.{T}

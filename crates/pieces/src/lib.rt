@@ -103,7 +103,7 @@ pub extern "C" fn pieces_set(
     ))
 }
 
-// P and every draft it reaches become frozen; P gets one hold of the seat's. If P is frozen already it only gets one more.
+// P and every draft it reaches become frozen; P gets one hold of the seat's. If P is frozen already it gets one where the seat has none, and else nothing changes.
 #[no_mangle]
 pub extern "C" fn pieces_freeze(
     n: usize,

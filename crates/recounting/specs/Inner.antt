@@ -10,8 +10,6 @@ use Rattle.rules.specs.Lists.{_!_}
 use Rattle.rules.specs.Limits.{none}
 use Rattle.rules.specs.Below.{sum}
 use Rattle.laws.specs.Below.{sum-next}
-use Rattle.laws.specs.Counts.{sum-mono}
-use Rattle.laws.specs.Kept.{sum-term}
 use Rattle.laws.specs.Numbers.{eq-or, set-cases}
 use Rattle.tallies.specs.Sums.{getD-any}
 use Rattle.tallies.specs.Tally.{label}

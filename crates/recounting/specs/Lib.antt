@@ -1,5 +1,7 @@
 pub mod Merged
-pub mod Fresh
+pub mod Standing
+pub mod Taken
 pub mod Summing
 pub mod Inner
+pub mod Within
 pub mod Turning

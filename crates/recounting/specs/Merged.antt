@@ -9,11 +9,10 @@ use lib.Dec.{eqb}
 use lib.ListN.{length}
 use borrow.Author.Tests.{eq-eqb, ne-eqb}
 use Rattle.rules.specs.Tests.{_&_, onlyIf}
-use Rattle.rules.specs.Limits.{none}
 use Rattle.rules.specs.Below.{sum}
 use Rattle.rules.specs.Lists.{_!_}
 use Rattle.laws.specs.Numbers.{eq-or, lt-or}
-use Rattle.tallies.specs.Sums.{sum-cong, sum-joined, sum-zero, sum-one, onlyIf-true, onlyIf-false, onlyIf-most}
+use Rattle.tallies.specs.Sums.{sum-cong, sum-joined, sum-zero, sum-one, onlyIf-true, onlyIf-false}
 use Rattle.tallies.specs.Tally.{label, cross, held, placed}
 use Rattle.tallies.specs.Moves.{cross-in, cross-off, cross-on}
 use Rattle.tallies.specs.Exact.{label-past}
@@ -53,10 +52,6 @@ module _ (labels : List ℕ) (L i t : ℕ) where
   inner-on e g f = onlyIf-true _ 1
       (ap₂ (λ (a b : Bool). a & (b & not (eqb (i / 4) t))) (eq-eqb (label labels t) L e) (eq-eqb (label labels (i / 4)) L g)
       ∙ ap not (ne-eqb (i / 4) t f))
-
-  pub inner-most : inner labels L i t ≤ 1
-  unfolding inner
-  inner-most = onlyIf-most (eqb (label labels t) L & (eqb (label labels (i / 4)) L & not (eqb (i / 4) t))) 1 1 (omega arith)
 
   -- a place of another piece that names t counts for t's label, or lies within it
   split : onlyIf (eqb (label labels t) L) (hit t (i / 4) t) ≡ cross labels L i t + inner labels L i t

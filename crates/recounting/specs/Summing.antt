@@ -1,7 +1,6 @@
 -- The first pass over the queue: each piece gets its leader, and its entry of links into it goes to its group's count.
 use mathlib.Core.Path.{_≡_, refl, sym, ap, _∙_, subst}
-use mathlib.Core.Logic.{_⊎_, inl, inr, ⊎-elim}
-use mathlib.Core.Bool.{Bool}
+use mathlib.Core.Logic.{_⊎_, ⊎-elim}
 use mathlib.Core.List.{List}
 use Prim.Native.Nat.{ℕ, _+_, _*_, _≤_, _<_}
 use native.Mathlib.Omega.{arith}
@@ -15,12 +14,13 @@ use Rattle.rules.specs.Below.{sum}
 use Rattle.laws.specs.Below.{sum-change}
 use Rattle.laws.specs.Counts.{sum-most}
 use Rattle.laws.specs.Kept.{sum-term}
-use Rattle.laws.specs.Numbers.{eq-or, lt-or, set-cases}
+use Rattle.laws.specs.Numbers.{eq-or, set-cases}
 use Rattle.tallies.specs.Sums.{onlyIf-true, onlyIf-false, onlyIf-most, sum-zero}
 use Rattle.tallies.specs.Tally.{label, held, placed}
-use Rattle.into.specs.Into.{Into, into-most}
+use Rattle.into.specs.Into.{into-most}
 use Rattle.recounting.specs.Merged.{within, merged}
-use Rattle.recounting.specs.Fresh.{Stands, freshLeaders, stands-or, fresh-n, fresh-on, fresh-off, Taking}
+use Rattle.recounting.specs.Standing.{Standing, freshLeaders, standing-or, fresh-n, fresh-on, fresh-off}
+use Rattle.recounting.specs.Taken.{Taking}
 
 -- entry q goes to 0
 held-out : (n : ℕ) (into labels : List ℕ) (q L : ℕ) → q < n → q < length into
@@ -46,9 +46,9 @@ pub record Summed (n : ℕ) (leaders counts into work : List ℕ) (size j : ℕ)
   pub counts-n : length counts′ ≡ length counts
   pub into-n : length into′ ≡ length into
   pub led : (i : ℕ) → i < j → leaders′ ! (work ! (6 * n + i)) ≡ work ! (2 * n + work ! (6 * n + i))
-  pub left : (q : ℕ) → (Stands n work size q → ⊥) → leaders′ ! q ≡ leaders ! q
+  pub left : (q : ℕ) → (Standing n work size q → ⊥) → leaders′ ! q ≡ leaders ! q
   pub emptied : (i : ℕ) → i < j → into′ ! (work ! (6 * n + i)) ≡ 0
-  pub kept : (q : ℕ) → (Stands n work size q → ⊥) → into′ ! q ≡ into ! q
+  pub kept : (q : ℕ) → (Standing n work size q → ⊥) → into′ ! q ≡ into ! q
   pub whole : (L : ℕ) → L < n → counts′ ! L + sum (held into′ (freshLeaders n work size) L) n ≡ counts ! L + sum (held into (freshLeaders n work size) L) n
 
 pub summed-none : {n : ℕ} {leaders counts into work : List ℕ} {size : ℕ} → Summed n leaders counts into work size 0 leaders counts into
@@ -90,7 +90,7 @@ module _ {n : ℕ} {states links leaders counts into work : List ℕ} {size : �
       pub summing-below : work ! (6 * n + j) < n
       summing-below = t .queued .each j more
 
-      standing : Stands n work size (work ! (6 * n + j))
+      standing : Standing n work size (work ! (6 * n + j))
       standing = record { at = j; below = more; is = refl }
 
       pub summing-leader : work ! (2 * n + work ! (6 * n + j)) < n
@@ -123,9 +123,9 @@ module _ {n : ℕ} {states links leaders counts into work : List ℕ} {size : �
             (λ w. w .1 ∙ ap (λ (x : ℕ). work ! (2 * n + x)) (sym (w .0)))
             (λ w. w .1 ∙ a .led i (last i h (w .0)))
             (leaders-at (work ! (6 * n + i)));
-        left = λ r f. ⊎-elim (λ w. absurd (f (subst (Stands n work size) (sym (w .0)) standing))) (λ w. w .1 ∙ a .left r f) (leaders-at r);
+        left = λ r f. ⊎-elim (λ w. absurd (f (subst (Standing n work size) (sym (w .0)) standing))) (λ w. w .1 ∙ a .left r f) (leaders-at r);
         emptied = λ i h. ⊎-elim (λ w. w .1) (λ w. w .1 ∙ a .emptied i (last i h (w .0))) (into-at (work ! (6 * n + i)));
-        kept = λ r f. ⊎-elim (λ w. absurd (f (subst (Stands n work size) (sym (w .0)) standing))) (λ w. w .1 ∙ a .kept r f) (into-at r);
+        kept = λ r f. ⊎-elim (λ w. absurd (f (subst (Standing n work size) (sym (w .0)) standing))) (λ w. w .1 ∙ a .kept r f) (into-at r);
         whole = λ L h. whole L h;
       }
         where
@@ -155,16 +155,16 @@ module _ {n : ℕ} {states links leaders counts into work : List ℕ} {size : �
 
     -- all are passed
     module _ (end : size ≤ j) where
-      pub summed-leaders : (r : ℕ) → r < n → Stands n work size r → leaders₁ ! r ≡ work ! (2 * n + r)
+      pub summed-leaders : (r : ℕ) → r < n → Standing n work size r → leaders₁ ! r ≡ work ! (2 * n + r)
       summed-leaders r h e =
           let x = a .led (e .at) (let y = e .below in omega arith) in
           subst (λ (y : ℕ). leaders₁ ! y ≡ work ! (2 * n + y)) (e .is) x
 
-      pub summed-empty : (r : ℕ) → r < n → Stands n work size r → into₁ ! r ≡ 0
+      pub summed-empty : (r : ℕ) → r < n → Standing n work size r → into₁ ! r ≡ 0
       summed-empty r h e = subst (λ (y : ℕ). into₁ ! y ≡ 0) (e .is) (a .emptied (e .at) (let y = e .below in omega arith))
 
-      draft-of : (m : ℕ) → m < n → {L : ℕ} → L < n → label fresh m ≡ L → Stands n work size m
-      draft-of m h {L} k e = ⊎-elim (λ x. x) (λ f. absurd (omega (arith, fresh-off n work size m h f, t .small))) (stands-or n work size m)
+      draft-of : (m : ℕ) → m < n → {L : ℕ} → L < n → label fresh m ≡ L → Standing n work size m
+      draft-of m h {L} k e = ⊎-elim (λ x. x) (λ f. absurd (omega (arith, fresh-off n work size m h f, t .small))) (standing-or n work size m)
 
       pub summed-counts : (L : ℕ) → L < n
           → counts₁ ! L ≡ counts ! L + sum (placed links (freshLeaders n work size) L) (4 * n) + sum (within links (freshLeaders n work size) L) (4 * n)
@@ -192,10 +192,10 @@ pub record Handed (n : ℕ) (links leaders counts into work : List ℕ) (size : 
   pub leaders-n : length leaders′ ≡ length leaders
   pub counts-n : length counts′ ≡ length counts
   pub into-n : length into′ ≡ length into
-  pub led : (q : ℕ) → q < n → Stands n work size q → leaders′ ! q ≡ work ! (2 * n + q)
-  pub left : (q : ℕ) → (Stands n work size q → ⊥) → leaders′ ! q ≡ leaders ! q
-  pub emptied : (q : ℕ) → q < n → Stands n work size q → into′ ! q ≡ 0
-  pub kept : (q : ℕ) → (Stands n work size q → ⊥) → into′ ! q ≡ into ! q
+  pub led : (q : ℕ) → q < n → Standing n work size q → leaders′ ! q ≡ work ! (2 * n + q)
+  pub left : (q : ℕ) → (Standing n work size q → ⊥) → leaders′ ! q ≡ leaders ! q
+  pub emptied : (q : ℕ) → q < n → Standing n work size q → into′ ! q ≡ 0
+  pub kept : (q : ℕ) → (Standing n work size q → ⊥) → into′ ! q ≡ into ! q
   pub counted : (L : ℕ) → L < n → counts′ ! L ≡ counts ! L + sum (placed links (freshLeaders n work size) L) (4 * n) + sum (within links (freshLeaders n work size) L) (4 * n)
 
 pub summed-all : {n : ℕ} {states links leaders counts into work : List ℕ} {size j : ℕ} {leaders′ counts′ into′ : List ℕ} → Taking n states links leaders counts into work size

@@ -1,9 +1,9 @@
 -- The second pass over the queue: the places within each piece's group are taken off its count, and the piece is frozen.
 use mathlib.Core.Path.{_≡_, refl, sym, ap, _∙_, subst}
-use mathlib.Core.Logic.{_⊎_, inl, inr, ⊎-elim}
+use mathlib.Core.Logic.{_⊎_, ⊎-elim}
 use mathlib.Core.Bool.{Bool, true, false}
 use mathlib.Core.List.{List}
-use Prim.Native.Nat.{ℕ, _+_, _*_, _/_, _≤_, _<_}
+use Prim.Native.Nat.{ℕ, _+_, _*_, _≤_, _<_}
 use native.Mathlib.Nat.{le-refl}
 use native.Mathlib.Omega.{arith}
 use lib.Dec.{eqb}
@@ -12,27 +12,18 @@ use lib.Seq.{getD-set-same, getD-set-other}
 use borrow.Author.Tests.{eq-eqb, ne-eqb}
 use Rattle.rules.specs.Lists.{_!_}
 use Rattle.rules.specs.Tests.{onlyIf}
-use Rattle.rules.specs.Limits.{none}
 use Rattle.rules.specs.Below.{sum}
 use Rattle.laws.specs.Below.{sum-change}
 use Rattle.laws.specs.Kept.{sum-term}
-use Rattle.laws.specs.Numbers.{eq-or, lt-or, set-cases}
-use Rattle.tallies.specs.Sums.{sum-cong, sum-zero, onlyIf-true, onlyIf-false, getD-any}
-use Rattle.tallies.specs.Tally.{label, placed}
-use Rattle.tallies.specs.Exact.{sum-flat, label-past}
-use Rattle.recounting.specs.Merged.{inner, within, inner-off, inner-out, inner-same}
-use Rattle.recounting.specs.Fresh.{Stands, freshLeaders, stands-or, fresh-n, fresh-on, fresh-off, Taking, Taken}
-use Rattle.recounting.specs.Summing.{Handed, Handing, Summed, summed-all}
+use Rattle.laws.specs.Numbers.{eq-or, set-cases}
+use Rattle.tallies.specs.Sums.{sum-zero, onlyIf-true, onlyIf-false}
+use Rattle.tallies.specs.Tally.{placed}
+use Rattle.recounting.specs.Merged.{within}
+use Rattle.recounting.specs.Standing.{Standing, freshLeaders, standing-or}
+use Rattle.recounting.specs.Taken.{Taking, Taken}
+use Rattle.recounting.specs.Summing.{Handing, Summed, summed-all}
+use Rattle.recounting.specs.Within.{Turnable, leaders-n, same-within, within-none, all-remaining}
 use Rattle.recounting.specs.Inner.{withinOf, Uncounting, Uncounted}
-
--- the first pass was made
-pub record Turnable (n : ℕ) (states links leaders counts work : List ℕ) (size : ℕ) : Type 0 where
-  pub leaders₀ : List ℕ
-  pub counts₀ : List ℕ
-  pub into₀ : List ℕ
-  pub into₁ : List ℕ
-  pub taking : Taking n states links leaders₀ counts₀ into₀ work size
-  pub handed : Handed n links leaders₀ counts₀ into₀ work size leaders counts into₁
 
 -- the first j pieces of the queue are passed
 pub record Turned (n : ℕ) (states links counts work : List ℕ) (size j : ℕ) (states′ counts′ : List ℕ) : Type 0 where
@@ -40,7 +31,7 @@ pub record Turned (n : ℕ) (states links counts work : List ℕ) (size j : ℕ)
   pub counts-n : length counts′ ≡ length counts
   pub frozen : (i : ℕ) → i < j → states′ ! (work ! (6 * n + i)) ≡ 2
   pub still : (i : ℕ) → j ≤ i → i < size → states′ ! (work ! (6 * n + i)) ≡ 1
-  pub left : (q : ℕ) → (Stands n work size q → ⊥) → states′ ! q ≡ states ! q
+  pub left : (q : ℕ) → (Standing n work size q → ⊥) → states′ ! q ≡ states ! q
   pub sums : (L : ℕ) → L < n
       → counts′ ! L + sum (λ r. onlyIf (eqb (states ! r) 1) (withinOf links (freshLeaders n work size) L r 4)) n
       ≡ counts ! L + sum (λ r. onlyIf (eqb (states′ ! r) 1) (withinOf links (freshLeaders n work size) L r 4)) n
@@ -62,87 +53,17 @@ module _ {n : ℕ} {states links leaders counts work : List ℕ} {size : ℕ} (t
     sums = λ L h. refl;
   }
 
-  leaders-n : length leaders ≡ n
-  leaders-n = t .handed .leaders-n ∙ g .leaders-n
-
-  label-at : (q : ℕ) → q < n → label leaders q ≡ leaders ! q
-  label-at q h = getD-any leaders q none 0 (omega (arith, leaders-n))
-
-  -- for a finished piece the labels of the search and the leaders say the same
-  module _ (q : ℕ) (h : q < n) (e : Stands n work size q) where
-    own-fresh : label fresh q ≡ work ! (2 * n + q)
-    own-fresh = fresh-on n work size q h e
-
-    own-led : label leaders q ≡ work ! (2 * n + q)
-    own-led = label-at q h ∙ t .handed .led q h e
-
-    same-place : (L k : ℕ) → L < n → k < 4 → within links leaders L (4 * q + k) ≡ within links fresh L (4 * q + k)
-    unfolding within
-    same-place L k l m = ⊎-elim inside outside (eq-or (work ! (2 * n + q)) L)
-      where
-        quarter : (4 * q + k) / 4 ≡ q
-        quarter = omega arith
-
-        outside : (work ! (2 * n + q) ≡ L → ⊥) → inner leaders L (4 * q + k) (links ! (4 * q + k)) ≡ inner fresh L (4 * q + k) (links ! (4 * q + k))
-        outside f =
-            inner-out leaders L (4 * q + k) (links ! (4 * q + k)) (λ y. f (sym (ap (label leaders) quarter ∙ own-led) ∙ y))
-            ∙ sym (inner-out fresh L (4 * q + k) (links ! (4 * q + k)) (λ y. f (sym (ap (label fresh) quarter ∙ own-fresh) ∙ y)))
-
-        both-off : (label leaders (links ! (4 * q + k)) ≡ L → ⊥) → (label fresh (links ! (4 * q + k)) ≡ L → ⊥)
-            → inner leaders L (4 * q + k) (links ! (4 * q + k)) ≡ inner fresh L (4 * q + k) (links ! (4 * q + k))
-        both-off a b = inner-off leaders L (4 * q + k) (links ! (4 * q + k)) a ∙ sym (inner-off fresh L (4 * q + k) (links ! (4 * q + k)) b)
-
-        inside : work ! (2 * n + q) ≡ L → inner leaders L (4 * q + k) (links ! (4 * q + k)) ≡ inner fresh L (4 * q + k) (links ! (4 * q + k))
-        inside y = ⊎-elim
-            (λ u. ⊎-elim
-            (λ v. inner-same leaders fresh L (4 * q + k) (links ! (4 * q + k))
-            (label-at (links ! (4 * q + k)) u ∙ t .handed .led (links ! (4 * q + k)) u v ∙ sym (fresh-on n work size (links ! (4 * q + k)) u v))
-            (ap (label leaders) quarter ∙ own-led ∙ sym (ap (label fresh) quarter ∙ own-fresh)))
-            (λ v. both-off
-            (λ z. g .apart (links ! (4 * q + k)) q u h v e (sym (label-at (links ! (4 * q + k)) u ∙ t .handed .left (links ! (4 * q + k)) v) ∙ z ∙ sym y))
-            (λ z. omega (arith, fresh-off n work size (links ! (4 * q + k)) u v, g .small)))
-            (stands-or n work size (links ! (4 * q + k))))
-            (λ u. both-off
-            (λ z. omega (arith, label-past n leaders (links ! (4 * q + k)) leaders-n u, g .small))
-            (λ z. omega (arith, label-past n fresh (links ! (4 * q + k)) (fresh-n n work size) u, g .small)))
-            (lt-or (links ! (4 * q + k)) n)
-
-    same-within : (L : ℕ) → L < n → withinOf links leaders L q 4 ≡ withinOf links fresh L q 4
-    same-within L l = sum-cong (λ k. within links leaders L (4 * q + k)) (λ k. within links fresh L (4 * q + k)) 4 (λ k m. same-place L k l m)
-
-  -- a piece that is not finished has no places within a fresh label
-  within-none : (q L : ℕ) → q < n → L < n → (Stands n work size q → ⊥) → withinOf links fresh L q 4 ≡ 0
-  unfolding within
-  within-none q L h l f =
-      sum-zero (λ k. within links fresh L (4 * q + k)) 4
-      (λ k m. let quarter : (4 * q + k) / 4 ≡ q = omega arith in
-      inner-out fresh L (4 * q + k) (links ! (4 * q + k)) (λ y. omega (arith, ap (label fresh) quarter ∙ fresh-off n work size q h f, g .small)))
-
-  -- at first all places within a label are those of drafts
-  all-remaining : (L : ℕ) → L < n → sum (λ r. onlyIf (eqb (states ! r) 1) (withinOf links fresh L r 4)) n ≡ sum (within links fresh L) (4 * n)
-  all-remaining L l =
-      sum-cong _ (λ r. withinOf links fresh L r 4) n
-      (λ r h. ⊎-elim
-      (λ e. onlyIf-true _ _ (eq-eqb (states ! r) 1 (g .draft r h e)))
-      (λ f. let z = within-none r L h l f in ap (onlyIf (eqb (states ! r) 1)) z ∙ nothing (eqb (states ! r) 1) ∙ sym z)
-      (stands-or n work size r))
-      ∙ sym (sum-flat (within links fresh L) n)
-    where
-      nothing : (c : Bool) → onlyIf c 0 ≡ 0
-      nothing true = refl
-      nothing false = refl
-
   module _ {j : ℕ} {states₁ counts₁ : List ℕ} (a : Turned n states links counts work size j states₁ counts₁) where
     -- the counts are those of the places from outside, and of what is left within
     counts-are : (L : ℕ) → L < n
         → counts₁ ! L ≡ t .counts₀ ! L + sum (placed links fresh L) (4 * n) + sum (λ r. onlyIf (eqb (states₁ ! r) 1) (withinOf links fresh L r 4)) n
-    counts-are L l = omega (arith, a .sums L l, t .handed .counted L l, all-remaining L l)
+    counts-are L l = omega (arith, a .sums L l, t .handed .counted L l, all-remaining t L l)
 
     module _ (more : j < size) where
       pub turning-below : work ! (6 * n + j) < n
       turning-below = g .queued .each j more
 
-      marked : Stands n work size (work ! (6 * n + j))
+      marked : Standing n work size (work ! (6 * n + j))
       marked = record { at = j; below = more; is = refl }
 
       abbrev q : ℕ
@@ -155,7 +76,7 @@ module _ {n : ℕ} {states links leaders counts work : List ℕ} {size : ℕ} (t
       uncounting = record {
         small = g .small;
         links-n = g .links-n;
-        leaders-n = leaders-n;
+        leaders-n = leaders-n t;
         counts-n = a .counts-n ∙ t .handed .counts-n ∙ g .counts-n;
         below = turning-below;
         led = own-below;
@@ -163,7 +84,7 @@ module _ {n : ℕ} {states links leaders counts work : List ℕ} {size : ℕ} (t
             let L : ℕ = leaders ! q in
             omega (
               arith,
-              same-within q turning-below marked L own-below,
+              same-within t q turning-below marked L own-below,
               counts-are L own-below,
               here-term L,
               sum-term (λ r. onlyIf (eqb (states₁ ! r) 1) (withinOf links fresh L r 4)) n q turning-below,
@@ -180,8 +101,8 @@ module _ {n : ℕ} {states links leaders counts work : List ℕ} {size : ℕ} (t
         counts-n = u .size ∙ a .counts-n;
         frozen = λ i h. ⊎-elim (λ w. w .1) (λ w. w .1 ∙ a .frozen i (last i h (w .0))) (at (work ! (6 * n + i)));
         still = λ i k h. ⊎-elim (λ w. absurd (g .queued .apart j i (omega arith) h (sym (w .0)))) (λ w. w .1 ∙ a .still i (omega arith) h) (at (work ! (6 * n + i)));
-        left = λ r f. ⊎-elim (λ w. absurd (f (subst (Stands n work size) (sym (w .0)) marked))) (λ w. w .1 ∙ a .left r f) (at r);
-        sums = λ L l. omega (arith, u .sums L l, same-within q turning-below marked L l, a .sums L l, one-off L, here-term L, turned-term L);
+        left = λ r f. ⊎-elim (λ w. absurd (f (subst (Standing n work size) (sym (w .0)) marked))) (λ w. w .1 ∙ a .left r f) (at r);
+        sums = λ L l. omega (arith, u .sums L l, same-within t q turning-below marked L l, a .sums L l, one-off L, here-term L, turned-term L);
       }
         where
           at : (r : ℕ) → ((r ≡ q) × (states₂ ! r ≡ 2)) ⊎ ((r ≡ q → ⊥) × (states₂ ! r ≡ states₁ ! r))
@@ -218,15 +139,15 @@ module _ {n : ℕ} {states links leaders counts work : List ℕ} {size : ℕ} (t
         counts-are L l,
         sum-zero (λ r. onlyIf (eqb (states₁ ! r) 1) (withinOf links fresh L r 4)) n (λ r h. ⊎-elim
             (λ e. onlyIf-false _ _ (ne-eqb (states₁ ! r) 1 (λ y. let z = frozen r h e in omega arith)))
-            (λ f. ap (onlyIf (eqb (states₁ ! r) 1)) (within-none r L h l f) ∙ nothing (eqb (states₁ ! r) 1))
-            (stands-or n work size r)),
+            (λ f. ap (onlyIf (eqb (states₁ ! r) 1)) (within-none t r L h l f) ∙ nothing (eqb (states₁ ! r) 1))
+            (standing-or n work size r)),
       );
       into-n = t .handed .into-n;
       emptied = t .handed .emptied;
       kept = t .handed .kept;
     }
       where
-        frozen : (p : ℕ) → p < n → Stands n work size p → states₁ ! p ≡ 2
+        frozen : (p : ℕ) → p < n → Standing n work size p → states₁ ! p ≡ 2
         frozen p h e = subst (λ (x : ℕ). states₁ ! x ≡ 2) (e .is) (a .frozen (e .at) (let y = e .below in omega arith))
 
         nothing : (c : Bool) → onlyIf c 0 ≡ 0

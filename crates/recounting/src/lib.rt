@@ -1,8 +1,9 @@
 // What stands in the queue of a freeze becomes frozen, and its groups are counted: the links into its drafts, added up, less the places within each group.
-ghost use Rattle.recounting.specs.Fresh.{Taking, Taken};
+ghost use Rattle.recounting.specs.Taken.{Taking, Taken};
 ghost use Rattle.recounting.specs.Summing.{Handing, Summed};
 ghost use Rattle.recounting.specs.Inner.{Uncounting, Uncounted};
-ghost use Rattle.recounting.specs.Turning.{Turnable, Turned};
+ghost use Rattle.recounting.specs.Within.{Turnable};
+ghost use Rattle.recounting.specs.Turning.{Turned};
 use rules::Store;
 
 // Each piece of the queue gets its leader, and the links into it go to its group's count.

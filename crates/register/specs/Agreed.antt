@@ -8,8 +8,8 @@ use Prim.Native.Nat.{ℕ, zero, suc, _+_, _≤_, _<_}
 use native.Mathlib.Omega.{arith}
 use native.Mathlib.Nat.{le-refl}
 use lib.Dec.{eqb, eqb→eq, eqb-refl, T}
-use lib.ListN.{length, take, drop, replicate, length-replicate, getD-replicate, take-append-drop}
-use lib.Seq.{length-take-le, getD-take, getD-drop, getD-append-add, ext-getD}
+use lib.ListN.{length, drop, replicate, length-replicate}
+use lib.Seq.{getD-drop, getD-append-add}
 use Rattle.rules.specs.Tests.{_&_}
 use Rattle.rules.specs.Lists.{_!_}
 use Rattle.rules.specs.Below.{every}

@@ -8,11 +8,10 @@ use mathlib.Core.Bool.{Bool}
 use mathlib.Core.List.{List, [], _++_, append-nil}
 use Prim.Native.Nat.{ℕ, _+_, _*_}
 use native.Mathlib.Omega.{arith}
-use lib.Dec.{eqb}
 use lib.ListN.{length, getD, drop, replicate, length-replicate, getD-replicate, List·getD-eq-default}
 use lib.Seq.{drop-length}
 use Rattle.rules.specs.Limits.{lines, entries}
-use Rattle.rules.specs.Register.{seatAt, pieceAt, numberAt, Right, adds, total, heldIn}
+use Rattle.rules.specs.Register.{seatAt, pieceAt, numberAt, Right, adds, total}
 use Rattle.laws.specs.Numbers.{lt-or}
 
 -- past its end every entry reads as 0
@@ -49,6 +48,3 @@ empty-right n = record {
 -- every sum over its lines is 0: of a pair, of a piece
 pub empty-total : (f : ℕ → ℕ → Bool) → total f (replicate entries 0) ≡ 0
 empty-total f = total-sum f (replicate entries 0) (empty-right 0 .ordered) ∙ sum-zero (adds f (replicate entries 0)) lines (λ i h. adds-none f (replicate entries 0) i (empty-number i))
-
-pub empty-in : (p : ℕ) → heldIn (replicate entries 0) p ≡ 0
-empty-in p = empty-total (λ t q. eqb q p)

@@ -1,5 +1,5 @@
 -- The line where a pair stands or would stand: the first that is unused or not before it.
-use Rattle.register.specs.Order.{number-past, used-down, order-up, order-on}
+use Rattle.register.specs.Order.{number-past, used-down, order-up}
 use Rattle.register.specs.Adds.{and-on, and-off, and-off-2}
 use mathlib.Core.Path.{_≡_, refl, sym, ap, _∙_, subst}
 use mathlib.Core.Logic.{_⊎_, inl, inr, ⊎-elim}
@@ -46,10 +46,6 @@ module _ (l : List ℕ) (o : Ordered l) (s p : ℕ) where
       (λ all. (lines, record { most = le-refl lines; before = all; here = λ u. absurd (omega (arith, number-past l (o .size) lines (le-refl lines))) }))
       (λ r. r)
       (scanned lines (le-refl lines))
-
-  -- the lines from there on are unused or not before the pair
-  pub found-on : (r : ℕ) → Found l s p r → (i : ℕ) → r ≤ i → 0 < numberAt l i → order s p ≤ orderAt l i
-  found-on r f i h u = omega (arith, f .here (used-down l o r i h u), order-on l o r i h u)
 
   -- no line before it is the one looked for, and it is
   line-on : (i k : ℕ) → isBefore l (order s p) i ≡ true → lineFrom l (order s p) i (suc k) ≡ lineFrom l (order s p) (suc i) k

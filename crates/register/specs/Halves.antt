@@ -12,7 +12,7 @@ use lib.Dec.{eqb, ltb}
 use lib.ListN.{length, getD}
 use Rattle.rules.specs.Tests.{_&_}
 use Rattle.rules.specs.Limits.{lines, entries}
-use Rattle.rules.specs.Register.{seatAt, pieceAt, numberAt, order, orderAt, Ordered, isBefore, hasLine}
+use Rattle.rules.specs.Register.{seatAt, pieceAt, numberAt, order, orderAt, isBefore, hasLine}
 
 and-first : {a : Bool} (b : Bool) → a ≡ true → b ≡ (a & b)
 and-first b e = sym (ap (λ (x : Bool). x & b) e)

@@ -2,18 +2,15 @@
 use Rattle.register.specs.Order.{used-below}
 use Rattle.register.specs.Adds.{adds-on}
 use Rattle.register.specs.Totals.{total-sum, total-some}
-use Rattle.register.specs.Pairs.{held-by-line}
 use mathlib.Core.Path.{_≡_, refl, ap}
-use mathlib.Core.Logic.{⊎-elim}
 use mathlib.Core.List.{List}
 use Prim.Native.Nat.{ℕ, _≤_, _<_}
 use native.Mathlib.Omega.{arith}
 use borrow.Author.Tests.{eq-eqb, eqb-true}
 use lib.Dec.{eqb}
 use Rattle.rules.specs.Limits.{lines}
-use Rattle.rules.specs.Register.{seatAt, pieceAt, numberAt, Ordered, Right, adds, heldBy, heldIn}
+use Rattle.rules.specs.Register.{pieceAt, numberAt, Ordered, adds, heldIn}
 use Rattle.laws.specs.Kept.{sum-term}
-use Rattle.laws.specs.Numbers.{lt-or}
 
 -- a line's number is part of its piece's holds
 pub held-line : (l : List ℕ) → Ordered l → (i : ℕ) → 0 < numberAt l i → numberAt l i ≤ heldIn l (pieceAt l i)
@@ -28,14 +25,6 @@ held-line l o i u =
 -- a piece with holds is named by a line
 pub held-some : (l : List ℕ) (p : ℕ) → 0 < heldIn l p → (i : ℕ) × (0 < numberAt l i) × (pieceAt l i ≡ p)
 held-some l p h = let w = total-some (λ t q. eqb q p) l h in (w .0, w .1, eqb-true (pieceAt l (w .0)) p (w .2))
-
--- ... so some seat has a hold of it
-pub held-seat : (l : List ℕ) (p : ℕ) → Ordered l → 0 < heldIn l p → (s : ℕ) × (0 < heldBy l s p)
-held-seat l p o h = let w = held-some l p h in (seatAt l (w .0), omega (arith, w .1, held-by-line l (seatAt l (w .0)) p o (w .0) (w .1) refl (w .2)))
-
--- no line names a number past the capacity
-pub held-past : (n : ℕ) (l : List ℕ) (p : ℕ) → Right n l → n ≤ p → heldIn l p ≡ 0
-held-past n l p r h = ⊎-elim (λ u. let w = held-some l p u in absurd (omega (arith, r .pieces (w .0) (w .1), w .2))) (λ u. omega arith) (lt-or 0 (heldIn l p))
 
 -- a piece without holds has no line
 pub held-none : (l : List ℕ) (p : ℕ) → Ordered l → heldIn l p ≡ 0 → (i : ℕ) → 0 < numberAt l i → pieceAt l i ≡ p → ⊥

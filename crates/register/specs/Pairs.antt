@@ -4,7 +4,7 @@ use Rattle.register.specs.Order.{used-below, one-line}
 use Rattle.register.specs.Adds.{pair-on, pair-off, pair-told, adds-on, adds-off, adds-none}
 use Rattle.register.specs.Totals.{total-sum, total-some, total-most}
 use mathlib.Core.Path.{_≡_, _∙_}
-use mathlib.Core.Logic.{_⊎_, inl, inr, ⊎-elim}
+use mathlib.Core.Logic.{_⊎_, inl, inr}
 use mathlib.Core.Bool.{Bool, true, false}
 use mathlib.Core.List.{List}
 use Prim.Native.Nat.{ℕ, _≤_, _<_, zero-le}
@@ -14,16 +14,9 @@ use lib.Dec.{eqb}
 use Rattle.rules.specs.Tests.{_&_, onlyIf}
 use Rattle.rules.specs.Limits.{lines}
 use Rattle.rules.specs.Register.{seatAt, pieceAt, numberAt, Ordered, adds, pair, heldBy, heldIn}
-use Rattle.laws.specs.Numbers.{eq-or, lt-or}
+use Rattle.laws.specs.Numbers.{eq-or}
 
 module _ (l : List ℕ) (s p : ℕ) where
-  pub held-by-none : ((i : ℕ) → 0 < numberAt l i → seatAt l i ≡ s → pieceAt l i ≡ p → ⊥) → heldBy l s p ≡ 0
-  held-by-none f =
-      ⊎-elim
-      (λ h. let w = total-some (pair s p) l h in let e = pair-told s p (seatAt l (w .0)) (pieceAt l (w .0)) (w .2) in absurd (f (w .0) (w .1) (e .0) (e .1)))
-      (λ h. omega arith)
-      (lt-or 0 (heldBy l s p))
-
   pub held-by-some : 0 < heldBy l s p → (i : ℕ) × (0 < numberAt l i) × (seatAt l i ≡ s) × (pieceAt l i ≡ p)
   held-by-some h =
       let w = total-some (pair s p) l h in

@@ -18,7 +18,7 @@ use borrow.Author.Tests.{eq-eqb, ne-eqb}
 use lib.Dec.{eqb}
 use Rattle.rules.specs.Tests.{pick, onlyIf}
 use Rattle.rules.specs.Limits.{lines}
-use Rattle.rules.specs.Register.{pieceAt, numberAt, Ordered, total, pair, heldBy, heldIn, lineOf, hasLine, renumbered, inserted, removed, oneMoreBy, oneLessBy}
+use Rattle.rules.specs.Register.{pieceAt, numberAt, Ordered, total, pair, heldBy, lineOf, hasLine, renumbered, inserted, removed, oneMoreBy, oneLessBy}
 use Rattle.laws.specs.Numbers.{eq-or, lt-or}
 use Rattle.tallies.specs.Sums.{onlyIf-true, onlyIf-false}
 
@@ -144,9 +144,3 @@ module _ {l : List ℕ} {s p : ℕ} {m : List ℕ} (t : Stepped l s p m) where
   -- no other pair's number: nothing of another seat, nothing of another piece
   pub held-by-other : (a b : ℕ) → ((s ≡ a) → (p ≡ b) → ⊥) → heldBy m a b ≡ heldBy l a b
   held-by-other a b d = omega (arith, t .sums (pair a b), onlyIf-false (pair a b s p) 1 (pair-off a b s p d))
-
-  pub held-in-more : heldIn m p ≡ heldIn l p + 1
-  held-in-more = omega (arith, t .sums (λ a b. eqb b p), onlyIf-true (eqb p p) 1 (eq-eqb p p refl))
-
-  pub held-in-other : (q : ℕ) → (p ≡ q → ⊥) → heldIn m q ≡ heldIn l q
-  held-in-other q d = omega (arith, t .sums (λ a b. eqb b q), onlyIf-false (eqb p q) 1 (ne-eqb p q d))

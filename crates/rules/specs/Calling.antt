@@ -1,5 +1,4 @@
 -- A trace as a history: the call that each line makes, and the line that its outcome gives.
-use mathlib.Core.Path.{_≡_}
 use mathlib.Core.List.{List, [], _∷_, _++_}
 use Prim.Native.Nat.{ℕ, _*_}
 use lib.ListN.{replicate}

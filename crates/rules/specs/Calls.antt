@@ -2,7 +2,7 @@
 use mathlib.Core.Path.{_≡_}
 use mathlib.Core.Bool.{Bool, true, false, not}
 use mathlib.Core.List.{List, [], _∷_, _++_}
-use Prim.Native.Nat.{ℕ, _*_, _≤_, _<_}
+use Prim.Native.Nat.{ℕ, _*_, _≤_}
 use lib.Dec.{eqb, leb}
 use lib.ListN.{length, getD, replicate, drop}
 use Rattle.rules.specs.Tests.{_or_, _&_, pick}
@@ -243,11 +243,6 @@ pub record ReadyStore (s : Store) : Type 0 where
   pub least : 1 ≤ s .tables .base .n
   pub sized : SizedStore s
   pub sound : SoundStore s
-
--- work has at least 8N entries, of which the first 8N are 0
-pub record Clear (n : ℕ) (w : List ℕ) : Type 0 where
-  pub size : 8 * n ≤ length w
-  pub zeros : (i : ℕ) → i < 8 * n → getD w i 0 ≡ 0
 
 -- the command's reply, and the store and the list on return, are what the rules give; a command that takes no list has [] for it
 pub record Did (c : Command) (s : Store) (l : List ℕ) (after : Effect) : Type 0 where

@@ -18,17 +18,6 @@ fault-none p = record { most = omega arith; right = λ _. p; none = λ _. refl }
 pub fault-one : {P : Type 0} → (P → ⊥) → Faults P 1 1
 fault-one f = record { most = omega arith; right = λ e. absurd (omega arith); none = λ p. absurd (f p) }
 
--- the same number, with a higher bound
-pub faults-at : {P : Type 0} {j k r s : ℕ} → j ≤ k → r ≡ s → Faults P j r → Faults P k s
-faults-at l e a = record { most = omega (arith, a .most); right = λ z. a .right (omega arith); none = λ p. omega (arith, a .none p) }
-
-pub faults-both : {P Q : Type 0} {j k r s : ℕ} → Faults P j r → Faults Q k s → Faults (P × Q) (j + k) (r + s)
-faults-both a b = record {
-  most = omega (arith, a .most, b .most);
-  right = λ e. (a .right (omega arith), b .right (omega arith));
-  none = λ x. omega (arith, a .none (x .0), b .none (x .1));
-}
-
 pub faults-start : {P : ℕ → Type 0} → Faults (Below P 0) 0 0
 faults-start = record { most = omega arith; right = λ _ p h. absurd (omega arith); none = λ _. refl }
 

@@ -11,7 +11,8 @@ use Rattle.rules.specs.Lists.{_!_}
 use Rattle.rules.specs.Tests.{_&_}
 use Rattle.rules.specs.Tables.{Base, Tables, isSound, intoEntry, intoRight}
 use Rattle.rules.specs.Words.{Well, Sound, Sized}
-use Rattle.rules.specs.Calls.{clear, Clear}
+use Rattle.rules.specs.Calls.{clear}
+use Rattle.areas.specs.Filled.{Clear}
 use Rattle.laws.specs.Below.{every→, →every}
 use Rattle.laws.specs.Tests.{and-both, and-left, and-right}
 use Rattle.laws.specs.Words.{eqb-of}

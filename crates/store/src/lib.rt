@@ -129,7 +129,7 @@ pub fn set(
     }
 }
 
-// P and every draft it reaches become frozen; P gets one hold of the seat's. If P is frozen already it only gets one more.
+// P and every draft it reaches become frozen; P gets one hold of the seat's. If P is frozen already it gets one where the seat has none, and else nothing changes.
 pub fn freeze(
     n: usize,
     states: &mut [u8],

@@ -9,7 +9,7 @@ use lib.ListN.{length}
 use lib.Seq.{ext-getD}
 use Rattle.rules.specs.Limits.{none}
 use Rattle.rules.specs.Below.{table}
-use Rattle.rules.specs.Tables.{tablesOn, Base, Tables, state, isFrozen, leaderOf, leaderEntry, countEntry, finish}
+use Rattle.rules.specs.Tables.{tablesOn, Base, state, isFrozen, leaderOf, leaderEntry, countEntry, finish}
 use Rattle.rules.specs.Words.{Frozen, Well}
 use Rattle.rules.specs.Lists.{_!_}
 use Rattle.laws.specs.Below.{getD-table, length-table}

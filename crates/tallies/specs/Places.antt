@@ -1,20 +1,15 @@
--- Counting up the link places: what one place adds, and the places below a place.
+-- Counting up the link places: what one place adds.
 use mathlib.Core.Path.{_≡_, sym, _∙_}
 use mathlib.Core.List.{List}
-use Prim.Native.Nat.{ℕ, _+_, _*_, _/_, _≤_, _<_}
+use Prim.Native.Nat.{ℕ, _+_, _/_, _≤_, _<_}
 use native.Mathlib.Omega.{arith}
 use lib.ListN.{set, length-set}
 use lib.Seq.{drop-set-lt}
 use Rattle.rules.specs.Lists.{_!_}
-use Rattle.rules.specs.Below.{sum}
-use Rattle.laws.specs.Below.{sum-next}
-use Rattle.laws.specs.Counts.{sum-most}
-use Rattle.tallies.specs.Tally.{label, cross, placed}
-use Rattle.tallies.specs.Moves.{cross-in, cross-off, cross-on, cross-most}
+use Rattle.tallies.specs.Tally.{label, cross}
+use Rattle.tallies.specs.Moves.{cross-in, cross-off, cross-on}
 use Rattle.tallies.specs.Exact.{label-past}
-use Rattle.tallies.specs.Adding.{Labelled, label-at, LaterSame, later-none, Added, added-none, added-one, added-then, added-same}
-
--- ---- one place
+use Rattle.tallies.specs.Adding.{Labelled, label-at, LaterSame, later-none, Added, added-none, added-one}
 
 -- a place of a piece with label own that names t is counted
 pub record LinkAdded (n : ℕ) (leaders : List ℕ) (own t : ℕ) (c c′ : List ℕ) : Type 0 where
@@ -45,26 +40,3 @@ module _ {n : ℕ} {leaders counts : List ℕ} {own t : ℕ} (z : Labelled n lea
         (λ j u f. cross-off leaders j i t (λ x. f (sym x ∙ label-at z t h ∙ sym e)));
     kept = record { size = length-set counts l (counts ! l + 1); later = drop-set-lt n counts l (counts ! l + 1) g };
   }
-
--- ---- the places below a place
-
--- the link places below i are added
-pub record LinksAdded (n : ℕ) (links leaders counts₀ : List ℕ) (i : ℕ) (counts : List ℕ) : Type 0 where
-  pub added : Added n (λ l. sum (placed links leaders l) i) counts₀ counts
-
-pub links-none : {n : ℕ} {links leaders counts : List ℕ} → LinksAdded n links leaders counts 0 counts
-unfolding sum
-links-none = record { added = added-none (λ l u. omega arith) }
-
-module _ {n : ℕ} {links leaders counts₀ counts : List ℕ} {i : ℕ} (z : Labelled n leaders counts₀) (a : LinksAdded n links leaders counts₀ i counts) (k : i < 4 * n) where
-  -- place i is counted
-  pub links-more : {counts′ : List ℕ} → LinkAdded n leaders (leaders ! (i / 4)) (links ! i) counts counts′ → LinksAdded n links leaders counts₀ (i + 1) counts′
-  unfolding placed
-  links-more b = record {
-    added = added-same (λ l u. omega (arith, sum-next (placed links leaders l) i)) (added-then (a .added) (b .at i (label-at z (i / 4) (omega arith))));
-  }
-
-  -- its count has room
-  pub links-fit : {l : ℕ} → l < n → counts₀ ! l ≤ 67107840 → counts ! l ≤ 67111936
-  unfolding placed
-  links-fit {l} h b = omega (arith, a .added .sums l h, z .small, sum-most (placed links leaders l) 1 i (λ p _. cross-most leaders l p (links ! p)))

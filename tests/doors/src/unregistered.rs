@@ -43,6 +43,13 @@ fn holding(r: &mut Random, t: &Tables) -> Option<usize> {
     one(r, t.n, |p| t.states[p] == FROZEN && (1..1_000).contains(&t.holds[p]))
 }
 
+/// A line that names a piece in that state, which has so many holds.
+fn naming(t: &mut Tables, r: &mut Random, state: u8, holds: u16) -> Option<()> {
+    let (seat, p) = (r.below(32) as u16, in_state(r, t, state)?);
+    t.holds[p] = holds;
+    with(t, Line { seat, piece: p as u16, number: 1 })
+}
+
 pub const UNREGISTERED: &[(&str, Spoil)] = &[
     ("two lines in the other order", |t, r| {
         let mut lines = lines(t);
@@ -116,24 +123,10 @@ pub const UNREGISTERED: &[(&str, Spoil)] = &[
         let seat = r.below(32) as u16;
         with(t, Line { seat, piece: t.n as u16, number: 1 })
     }),
-    ("a line that names a draft", |t, r| {
-        let (seat, p) = (r.below(32) as u16, in_state(r, t, DRAFT)?);
-        with(t, Line { seat, piece: p as u16, number: 1 })
-    }),
-    ("a line that names a draft, with that hold", |t, r| {
-        let (seat, p) = (r.below(32) as u16, in_state(r, t, DRAFT)?);
-        t.holds[p] = 1;
-        with(t, Line { seat, piece: p as u16, number: 1 })
-    }),
-    ("a line that names a free number", |t, r| {
-        let (seat, p) = (r.below(32) as u16, in_state(r, t, FREE)?);
-        with(t, Line { seat, piece: p as u16, number: 1 })
-    }),
-    ("a line that names a free number, with that hold", |t, r| {
-        let (seat, p) = (r.below(32) as u16, in_state(r, t, FREE)?);
-        t.holds[p] = 1;
-        with(t, Line { seat, piece: p as u16, number: 1 })
-    }),
+    ("a line that names a draft", |t, r| naming(t, r, DRAFT, 0)),
+    ("a line that names a draft, with that hold", |t, r| naming(t, r, DRAFT, 1)),
+    ("a line that names a free number", |t, r| naming(t, r, FREE, 0)),
+    ("a line that names a free number, with that hold", |t, r| naming(t, r, FREE, 1)),
     ("a sum one below the holds", |t, r| holding(r, t).map(|p| held(t, p, 1))),
     ("a sum one above the holds", |t, r| {
         let p = one(r, t.n, |p| t.holds[p] > 1)?;

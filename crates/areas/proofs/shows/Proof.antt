@@ -1,4 +1,4 @@
--- `areas::shows` meets its contract. The loop's invariant: if a piece passed has the state, the answer so far is true. Assumes nothing.
+-- `areas::shows` meets its contract. The loop's invariant: if a number passed is free, the answer so far is true. Assumes nothing.
 use mathlib.Core.Logic.{⊎-elim}
 use Prim.Native.Nat.{_-_, _≤_}
 use native.Mathlib.Omega.{arith}
@@ -7,10 +7,10 @@ use Rattle.areas.proofs.shows.Statement.{statement}
 use Rattle.areas.proofs.shows.Tie as tie
 
 abbrev Inv-loop : tie.InvT-loop
-Inv-loop states state from some₀ i₀ some i = (i ≤ 64) × Shows states state from i some
+Inv-loop states from some₀ i₀ some i = (i ≤ 64) × Shows states from i some
 
 abbrev μ-loop : tie.MeasureT-loop
-μ-loop states state from some₀ i₀ some i = 64 - i
+μ-loop states from some₀ i₀ some i = 64 - i
 
 loop-holds : tie.Need-loop-holds Inv-loop μ-loop
 loop-holds c = (omega arith, shows-start)

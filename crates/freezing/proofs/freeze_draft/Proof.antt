@@ -3,7 +3,6 @@ use mathlib.Core.Path.{_∙_}
 use native.Mathlib.Omega.{arith}
 use lib.ListN.{length-set}
 use borrow.Author.Needs.{needs}
-use Rattle.rules.specs.Lists.{_!_}
 use Rattle.freezing.specs.Whole.{gathering, findable, takable, behind, leader-below, leader-room, freezes, still-into}
 use Rattle.freezing.proofs.freeze_draft.Statement.{statement}
 use Rattle.freezing.proofs.freeze_draft.Tie as tie

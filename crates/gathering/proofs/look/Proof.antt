@@ -1,7 +1,7 @@
 -- `gathering::look` meets its contract: four places, one put each. Assumes nothing.
 use mathlib.Core.Path.{_∙_}
 use native.Mathlib.Omega.{arith}
-use Rattle.gathering.specs.Walked.{looked-below, at-none, at-first, at-next, at-putting}
+use Rattle.gathering.specs.Looked.{looked-below, at-none, at-first, at-next, at-putting}
 use Rattle.gathering.proofs.look.Statement.{statement}
 use Rattle.gathering.proofs.look.Tie as tie
 

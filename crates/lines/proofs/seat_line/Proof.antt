@@ -1,5 +1,4 @@
 -- `seat_line` takes byte 10, or the one word that is left and the byte 10 behind it. Assumes nothing.
-use native.Mathlib.Omega.{arith}
 use borrow.Author.Needs.{needs}
 use Rattle.lines.specs.Fronts.{seats-zero, seats-named}
 use Rattle.lines.proofs.seat_line.Statement.{statement}

@@ -3,7 +3,6 @@
 use mathlib.Core.Path.{refl}
 use Prim.Native.Nat.{_-_, _≤_}
 use native.Mathlib.Omega.{arith}
-use Rattle.rules.specs.Lists.{_!_}
 use Rattle.recounting.specs.Summing.{Summed, summed-none, summing-below, summing-leader, summing-room, summed-more, summed-to}
 use Rattle.recounting.proofs.hand_over.Statement.{statement}
 use Rattle.recounting.proofs.hand_over.Tie as tie

@@ -1,8 +1,7 @@
 -- `recounting::turn` meets its contract. The loop's invariant: the pieces of the queue before j are passed. Assumes nothing.
-use mathlib.Core.Path.{refl, _∙_}
+use mathlib.Core.Path.{refl}
 use Prim.Native.Nat.{_-_, _≤_}
 use native.Mathlib.Omega.{arith}
-use Rattle.rules.specs.Lists.{_!_}
 use Rattle.recounting.specs.Turning.{Turned, turned-none, turning-below, uncounting, turned-more, turned-to}
 use Rattle.recounting.proofs.turn.Statement.{statement}
 use Rattle.recounting.proofs.turn.Tie as tie

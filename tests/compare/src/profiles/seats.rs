@@ -1,6 +1,6 @@
 //! Profiles of many seats: they meet at the same pieces, and fill the register.
 
-use super::shapes::{drafts, ring};
+use super::shapes::{drafts, few, ring};
 use super::steps::{let_all_go, step};
 use super::{chains, keepers, loops};
 use crate::author::Author;
@@ -37,11 +37,7 @@ fn meet(author: &mut Author, pieces: &[u16]) {
 pub fn many(author: &mut Author) {
     author.seats = author.random.pick(&[2, 3, 5, 32]);
     while author.lines < 1_500 {
-        let size = author.random.from(1, 5);
-        let pieces = drafts(author, size);
-        if author.random.once_in(2) {
-            ring(author, &pieces, 0);
-        }
+        let pieces = few(author, 5);
         for _ in 0..author.random.from(10, 80) {
             meet(author, &pieces);
         }

@@ -21,6 +21,16 @@ pub fn ring(author: &mut Author, pieces: &[u16], k: u16) {
     }
 }
 
+/// A few new drafts, at most so many, alone or in a ring.
+pub fn few(author: &mut Author, most: usize) -> Vec<u16> {
+    let size = author.random.from(1, most);
+    let pieces = drafts(author, size);
+    if author.random.once_in(2) {
+        ring(author, &pieces, 0);
+    }
+    pieces
+}
+
 /// Freezes one of the pieces and looks at some.
 pub fn freeze_and_look(author: &mut Author, pieces: &[u16]) {
     let p = author.random.pick(pieces);

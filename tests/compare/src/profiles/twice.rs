@@ -1,7 +1,7 @@
 //! Profiles of pieces that are handed in twice: by the same seat, by others, and at the limits.
 
 use super::seats::{any_seat, fill};
-use super::shapes::{drafts, ring};
+use super::shapes::{drafts, few};
 use super::steps::{let_all_go, step};
 use crate::author::Author;
 use independent::tables::{FREE, HOLDS, LINES, SEATS};
@@ -41,11 +41,7 @@ fn again(author: &mut Author, pieces: &[u16]) {
 pub fn twice(author: &mut Author) {
     author.seats = author.random.pick(&[1, 2, 3, 32]);
     while author.lines < 1_500 {
-        let size = author.random.from(1, 4);
-        let pieces = drafts(author, size);
-        if author.random.once_in(2) {
-            ring(author, &pieces, 0);
-        }
+        let pieces = few(author, 4);
         for _ in 0..author.random.from(10, 60) {
             again(author, &pieces);
         }

@@ -19,7 +19,7 @@ use Rattle.laws.specs.Counts.{sum-most}
 use Rattle.laws.specs.Numbers.{eq-or, set-cases}
 use Rattle.paths.specs.Ground.{linkIn, OneWay, ground}
 use Rattle.tallies.specs.Sums.{sum-room, sum-zero, onlyIf-true, onlyIf-false, onlyIf-most}
-use Rattle.gathering.specs.Put.{Fresh, Putting}
+use Rattle.gathering.specs.Put.{Ungathered, Putting}
 
 -- what the walk begins with: the areas in their lengths, p a draft, no draft with a leader, and no way from what is no draft to a draft
 pub record Gathering (n : ℕ) (states links leaders work : List ℕ) (p : ℕ) : Type 0 where
@@ -34,8 +34,8 @@ pub record Gathering (n : ℕ) (states links leaders work : List ℕ) (p : ℕ) 
   pub closed : OneWay (ground n states links 1)
 
 -- 1 where q is a draft that stands in the queue
-unfoldable pub stands : ℕ → List ℕ → List ℕ → ℕ → ℕ
-stands n states leaders q = onlyIf (eqb (states ! q) 1 & ltb (leaders ! q) n) 1
+unfoldable pub standsAt : ℕ → List ℕ → List ℕ → ℕ → ℕ
+standsAt n states leaders q = onlyIf (eqb (states ! q) 1 & ltb (leaders ! q) n) 1
 
 -- q is a draft that p reaches, and it is marked
 pub record Mine (n : ℕ) (states links : List ℕ) (p : ℕ) (leaders : List ℕ) (q : ℕ) : Type 0 where
@@ -55,28 +55,28 @@ pub record Queue (n : ℕ) (states links leaders₀ work₀ : List ℕ) (p : ℕ
   pub left : (q : ℕ) → (states ! q ≡ 1 → ⊥) → leaders ! q ≡ leaders₀ ! q
   pub front : (i : ℕ) → i < 6 * n → work ! i ≡ work₀ ! i
   pub behind : (i : ℕ) → 6 * n + tail ≤ i → work ! i ≡ work₀ ! i
-  pub many : tail ≡ sum (stands n states leaders) n
+  pub many : tail ≡ sum (standsAt n states leaders) n
 
 module _ {n : ℕ} {states links leaders₀ work₀ : List ℕ} {p : ℕ} (g : Gathering n states links leaders₀ work₀ p) where
   off : (b : Bool) → (b & false) ≡ false
   off true = refl
   off false = refl
 
-  stands-not : (leaders : List ℕ) (q : ℕ) → leaders ! q ≡ none → stands n states leaders q ≡ 0
-  unfolding stands
+  stands-not : (leaders : List ℕ) (q : ℕ) → leaders ! q ≡ none → standsAt n states leaders q ≡ 0
+  unfolding standsAt
   stands-not leaders q e =
       onlyIf-false _ 1 (ap (λ (b : Bool). eqb (states ! q) 1 & b) (le-ltb (leaders ! q) n (omega (arith, g .small))) ∙ off (eqb (states ! q) 1))
 
-  stands-other : (leaders : List ℕ) (q : ℕ) → (states ! q ≡ 1 → ⊥) → stands n states leaders q ≡ 0
-  unfolding stands
+  stands-other : (leaders : List ℕ) (q : ℕ) → (states ! q ≡ 1 → ⊥) → standsAt n states leaders q ≡ 0
+  unfolding standsAt
   stands-other leaders q f = onlyIf-false _ 1 (ap (λ (b : Bool). b & ltb (leaders ! q) n) (ne-eqb (states ! q) 1 f))
 
-  stands-on : (leaders : List ℕ) (q : ℕ) → states ! q ≡ 1 → leaders ! q < n → stands n states leaders q ≡ 1
-  unfolding stands
+  stands-on : (leaders : List ℕ) (q : ℕ) → states ! q ≡ 1 → leaders ! q < n → standsAt n states leaders q ≡ 1
+  unfolding standsAt
   stands-on leaders q d h = onlyIf-true _ 1 (ap₂ (λ (a b : Bool). a & b) (eq-eqb (states ! q) 1 d) (lt-ltb (leaders ! q) n h))
 
-  stands-most : (leaders : List ℕ) (q : ℕ) → stands n states leaders q ≤ 1
-  unfolding stands
+  stands-most : (leaders : List ℕ) (q : ℕ) → standsAt n states leaders q ≤ 1
+  unfolding standsAt
   stands-most leaders q = onlyIf-most (eqb (states ! q) 1 & ltb (leaders ! q) n) 1 1 (omega arith)
 
   -- nothing stands there at first
@@ -91,12 +91,12 @@ module _ {n : ℕ} {states links leaders₀ work₀ : List ℕ} {p : ℕ} (g : G
     left = λ q d. refl;
     front = λ i h. refl;
     behind = λ i h. refl;
-    many = sym (sum-zero (stands n states leaders₀) n (λ q h. ⊎-elim (λ d. stands-not leaders₀ q (g .bare q h d)) (λ f. stands-other leaders₀ q f) (eq-or (states ! q) 1)));
+    many = sym (sum-zero (standsAt n states leaders₀) n (λ q h. ⊎-elim (λ d. stands-not leaders₀ q (g .bare q h d)) (λ f. stands-other leaders₀ q f) (eq-or (states ! q) 1)));
   }
 
   module _ {leaders work : List ℕ} {tail : ℕ} (a : Queue n states links leaders₀ work₀ p leaders work tail) where
     pub queue-most : tail ≤ n
-    queue-most = omega (arith, a .many, sum-most (stands n states leaders) 1 n (λ q _. stands-most leaders q))
+    queue-most = omega (arith, a .many, sum-most (standsAt n states leaders) 1 n (λ q _. stands-most leaders q))
 
     pub putting : {t : ℕ} → Putting n states leaders work t tail
     putting {t} = record {
@@ -104,11 +104,11 @@ module _ {n : ℕ} {states links leaders₀ work₀ : List ℕ} {p : ℕ} (g : G
       states-n = g .states-n;
       leaders-n = a .leaders-n ∙ g .leaders-n;
       work-n = omega (arith, a .work-n, g .work-n);
-      room = λ f. omega (arith, a .many, sum-room (stands n states leaders) n t (f .below) (λ q _. stands-most leaders q) (stands-not leaders t (f .bare)));
+      room = λ f. omega (arith, a .many, sum-room (standsAt n states leaders) n t (f .below) (λ q _. stands-most leaders q) (stands-not leaders t (f .bare)));
     }
 
     -- a draft that p reaches is put at its tail
-    module _ {t : ℕ} (f : Fresh n states leaders t) (r : Reach n (linkIn links) p t) where
+    module _ {t : ℕ} (f : Ungathered n states leaders t) (r : Reach n (linkIn links) p t) where
       abbrev leaders₁ : List ℕ
       leaders₁ = set leaders t t
 
@@ -166,8 +166,8 @@ module _ {n : ℕ} {states links leaders₀ work₀ : List ℕ} {p : ℕ} (g : G
         many = omega (
           arith,
           a .many,
-          sum-change (stands n states leaders₁) (stands n states leaders) n t (f .below)
-              (λ q _ d. unfold stands in (ap (λ (x : ℕ). onlyIf (eqb (states ! q) 1 & ltb x n) 1) (getD-set-other leaders t q t 0 d))),
+          sum-change (standsAt n states leaders₁) (standsAt n states leaders) n t (f .below)
+              (λ q _ d. unfold standsAt in (ap (λ (x : ℕ). onlyIf (eqb (states ! q) 1 & ltb x n) 1) (getD-set-other leaders t q t 0 d))),
           stands-not leaders t (f .bare),
           stands-on leaders₁ t (f .draft) (⊎-elim (λ w. let x = w .1 in let y = f .below in omega arith) (λ w. absurd (w .0 refl)) (leaders-at t)),
         );
