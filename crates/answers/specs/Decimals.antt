@@ -3,7 +3,7 @@ use mathlib.Core.Path.{_≡_, refl, sym, ap, _∙_}
 use mathlib.Core.Logic.{_⊎_, inl, inr, ⊎-elim}
 use mathlib.Core.Bool.{Bool, true, false}
 use mathlib.Core.List.{List, [], _∷_, _++_}
-use Prim.Native.Nat.{ℕ, zero, suc, _+_, _/_, _%_, _^_, _≤_, _<_}
+use Prim.Native.Nat.{ℕ, zero, suc, _+_, _-_, _*_, _/_, _%_, _^_, _≤_, _<_}
 use native.Mathlib.Omega.{arith}
 use native.Mathlib.Numerals.{add-one}
 use native.Mathlib.Nat.{pow-le-pow-right}
@@ -107,11 +107,18 @@ unfolding digitsOf
 length-digits zero v = refl
 length-digits (suc k) v = rw (length-append, length-digits k (v / 10)) (omega arith)
 
--- of two and of three digits
-pub decimal-two : (v : ℕ) → 10 ≤ v → v < 100 → decimal v ≡ digitsOf 1 (v / 10) ++ digitsOf 1 v
+-- two digits, of a number below 100
+pub digits-two : (v : ℕ) → v < 100 → digitsOf 2 v ≡ (48 + v / 10) ∷ (48 + (v - 10 * (v / 10))) ∷ []
 unfolding digitsOf
+digits-two v h = let a : v / 10 % 10 ≡ v / 10 = omega arith in let b : v % 10 ≡ v - 10 * (v / 10) = omega arith in rw (a, b)
+
+pub decimal-two : (v : ℕ) → 10 ≤ v → v < 100 → decimal v ≡ digitsOf 2 v
 decimal-two v l h = decimal-digits v ∙ ap (λ (k : ℕ). digitsOf k v) (sym (decimal-width 1 {v = v} (omega arith) (omega arith) (omega arith)))
 
-pub decimal-three : (v : ℕ) → 100 ≤ v → v < 1000 → decimal v ≡ digitsOf 1 (v / 10 / 10) ++ (digitsOf 1 (v / 10) ++ digitsOf 1 v)
+pub decimal-three : (v : ℕ) → 100 ≤ v → v < 1000 → decimal v ≡ (48 + v / 100) ∷ digitsOf 2 (v - 100 * (v / 100))
 unfolding digitsOf
-decimal-three v l h = decimal-digits v ∙ ap (λ (k : ℕ). digitsOf k v) (sym (decimal-width 2 {v = v} (omega arith) (omega arith) (omega arith)))
+decimal-three v l h =
+    let a : v / 10 / 10 % 10 ≡ v / 100 = omega arith in
+    let b : v / 10 % 10 ≡ (v - 100 * (v / 100)) / 10 % 10 = omega arith in
+    let d : v % 10 ≡ (v - 100 * (v / 100)) % 10 = omega arith in
+    decimal-digits v ∙ ap (λ (k : ℕ). digitsOf k v) (sym (decimal-width 2 {v = v} (omega arith) (omega arith) (omega arith))) ∙ rw (a, b, d)

@@ -7,7 +7,6 @@ use native.Mathlib.Numerals.{add-one}
 use native.Mathlib.Nat.{add-zero}
 use lib.ListN.{length, getD, set, take, length-append}
 use lib.Seq.{sets, set-comm, take-suc, length-take-le}
-use Rattle.rules.specs.Limits.{none}
 use Rattle.rules.specs.Trace.{decimal, valueOr, spaced, answerLine}
 use Rattle.answers.specs.Wrote.{Wrote, digitsOf, closingLine}
 use Rattle.answers.specs.Decimals.{length-digits}
@@ -65,14 +64,14 @@ pub done-line : (l : List ℕ) (value freed : ℕ) → freed ≤ length l
 unfolding answerLine
 done-line l value freed h = rw (length-take-le freed l h)
 
--- where nothing is given and nothing freed
-pub none-line : (l : List ℕ) (value freed : ℕ) → freed ≡ 0 → value ≡ none → answerLine 0 value (take freed l) ≡ answerLine 0 none []
-none-line l value freed e x = rw (e, x)
+-- where nothing is freed
+pub unfreed-line : (l : List ℕ) (value freed : ℕ) → freed ≡ 0 → answerLine 0 value (take freed l) ≡ answerLine 0 value []
+unfreed-line l value freed e = rw e
 
-pub refused-line : (number : ℕ)
-    → answerLine number none [] ≡ decimal number ++ (32 ∷ (valueOr none ++ (32 ∷ (decimal 0 ++ (10 ∷ [])))))
+pub plain-line : (number value : ℕ)
+    → answerLine number value [] ≡ decimal number ++ (32 ∷ (valueOr value ++ (32 ∷ (decimal 0 ++ (10 ∷ [])))))
 unfolding answerLine spaced
-refused-line number = refl
+plain-line number value = refl
 
 pub closing-line : (drafts frozen groups : ℕ)
     → closingLine drafts frozen groups

@@ -75,13 +75,16 @@ fn put_digits(out: &mut [u8], at: usize, k: usize, v: u32) -> usize
     at + k
 }
 
-// The last decimal digit of a number.
-fn put_last(out: &mut [u8], at: usize, v: u32) -> usize
-    requires { ⌜ at < length (now out) ⌝ }
-    ensures { λ r. ⌜ Wrote (now (out .entry)) at (digitsOf 1 v) (now (out .exit)) r ⌝ }
+// A number below 100, by two digits.
+fn put_two(out: &mut [u8], at: usize, v: u32) -> usize
+    requires { ⌜ (at + 2 ≤ length (now out)) × (v < 100) ⌝ }
+    ensures { λ r. ⌜ Wrote (now (out .entry)) at (digitsOf 2 v) (now (out .exit)) r ⌝ }
 {
-    let d = (v % 10) as u8;
-    put_byte(out, at, 48 + d)
+    let tens = v / 10;
+    let t = tens as u8;
+    let o = (v - 10 * tens) as u8;
+    let at1 = put_byte(out, at, 48 + t);
+    put_byte(out, at1, 48 + o)
 }
 
 // A number in decimal, without leading zeros.
@@ -94,16 +97,14 @@ pub fn put_number(out: &mut [u8], at: usize, v: u32) -> usize
         let d = v as u8;
         return put_byte(out, at, 48 + d);
     }
-    let tens = v / 10;
     if v < 100 {
-        let at1 = put_last(out, at, tens);
-        return put_last(out, at1, v);
+        return put_two(out, at, v);
     }
-    let hundreds = tens / 10;
     if v < 1000 {
-        let at1 = put_last(out, at, hundreds);
-        let at2 = put_last(out, at1, tens);
-        return put_last(out, at2, v);
+        let hundreds = v / 100;
+        let h = hundreds as u8;
+        let at1 = put_byte(out, at, 48 + h);
+        return put_two(out, at1, v - 100 * hundreds);
     }
     let k = width(v);
     put_digits(out, at, k, v)
@@ -148,15 +149,15 @@ fn put_freed(out: &mut [u8], at: usize, list: &[u16], freed: usize) -> usize
     next
 }
 
-// The line of a number, `-` and 0.
-fn put_none(out: &mut [u8], at: usize, number: u32) -> usize
+// The line of a number, a value or `-`, and 0.
+fn put_plain(out: &mut [u8], at: usize, number: u32, value: u16) -> usize
     requires { ⌜ at + 64 ≤ length (now out) ⌝ }
-    ensures { λ r. ⌜ Wrote (now (out .entry)) at (answerLine number none []) (now (out .exit)) r ⌝ }
+    ensures { λ r. ⌜ Wrote (now (out .entry)) at (answerLine number value []) (now (out .exit)) r ⌝ }
     ensures { λ r. ⌜ r ≤ at + 64 ⌝ }
 {
     let at1 = put_number(out, at, number);
     let at2 = put_byte(out, at1, 32);
-    let at3 = put_value(out, at2, Store::NONE);
+    let at3 = put_value(out, at2, value);
     let at4 = put_word(out, at3, 0);
     put_byte(out, at4, 10)
 }
@@ -169,8 +170,9 @@ fn put_done(out: &mut [u8], at: usize, value: u16, freed: u16, list: &[u16]) -> 
 {
     if freed == 0 {
         if value == Store::NONE {
-            return put_none(out, at, 0);
+            return put_plain(out, at, 0, Store::NONE);
         }
+        return put_plain(out, at, 0, value);
     }
     let count = freed as u32;
     let size = freed as usize;
@@ -189,7 +191,7 @@ fn put_refused(out: &mut [u8], at: usize, refusal: Refusal) -> usize
     ensures { λ r. ⌜ r ≤ at + 64 ⌝ }
 {
     let number = rules::refusal_number(refusal);
-    put_none(out, at, number)
+    put_plain(out, at, number, Store::NONE)
 }
 
 // The line of an answer, whose freed numbers are the first of the list.
@@ -221,6 +223,24 @@ fn put_piece(out: &mut [u8], at: usize, state: u8, leader: u16, count: u32, hold
     put_byte(out, at6, 10)
 }
 
+// The same; that of a draft is always one line.
+fn put_seen(out: &mut [u8], at: usize, state: u8, leader: u16, count: u32, holds: u16) -> usize
+    requires { ⌜ at + 64 ≤ length (now out) ⌝ }
+    ensures { λ r. ⌜ Wrote (now (out .entry)) at (pieceLine state leader count holds) (now (out .exit)) r ⌝ }
+    ensures { λ r. ⌜ r ≤ at + 64 ⌝ }
+{
+    if leader == Store::NONE {
+        if state == Store::DRAFT {
+            if count == 0 {
+                if holds == 0 {
+                    return put_piece(out, at, Store::DRAFT, Store::NONE, 0, 0);
+                }
+            }
+        }
+    }
+    put_piece(out, at, state, leader, count, holds)
+}
+
 // The line of a look.
 pub fn put_look(out: &mut [u8], at: usize, seen: Seen) -> usize
     requires { ⌜ at + 64 ≤ length (now out) ⌝ }
@@ -233,7 +253,7 @@ pub fn put_look(out: &mut [u8], at: usize, seen: Seen) -> usize
             leader,
             count,
             holds,
-        } => put_piece(out, at, state, leader, count, holds),
+        } => put_seen(out, at, state, leader, count, holds),
         Seen::Unseen(refusal) => put_refused(out, at, refusal),
     }
 }

@@ -81,8 +81,8 @@ pub fn sized(
     true
 }
 
-// The lowest free number, or n, where no number below from is free.
-pub fn lowest_free(n: usize, states: &[u8], from: usize) -> usize
+// The lowest free number, or n, where no number below from is free: number by number.
+fn lowest_near(n: usize, states: &[u8], from: usize) -> usize
     requires { ⌜ (length (now states) ≡ n) × (from ≤ n) × NoneFree (now states) from ⌝ }
     ensures { λ r. ⌜ LowestFree n (now (states .entry)) r ⌝ }
 {
@@ -96,14 +96,14 @@ pub fn lowest_free(n: usize, states: &[u8], from: usize) -> usize
     p
 }
 
-// Whether one of the 64 numbers from `from` on is free.
-fn shows(states: &[u8], from: usize) -> bool
-    requires { ⌜ from + 64 ≤ length (now states) ⌝ }
-    ensures { λ r. ⌜ Shows (now (states .entry)) from 64 r ⌝ }
+// Whether one of the `size` numbers from `from` on is free.
+fn shows(states: &[u8], from: usize, size: usize) -> bool
+    requires { ⌜ from + size ≤ length (now states) ⌝ }
+    ensures { λ r. ⌜ Shows (now (states .entry)) from size r ⌝ }
 {
     let mut some = false;
     let mut i: usize = 0;
-    while i < 64 {
+    while i < size {
         if states[from + i] == Store::FREE {
             some = true;
         }
@@ -112,23 +112,35 @@ fn shows(states: &[u8], from: usize) -> bool
     some
 }
 
-// The start of the first block of 64 that has a free number, counted from `from`, below which nothing is free.
-pub fn none_free(n: usize, states: &[u8], from: usize) -> usize
-    requires { ⌜ (length (now states) ≡ n) × (from ≤ n) × NoneFree (now states) from ⌝ }
+// The start of the first block of `size` numbers that has a free one, counted from `from`, below which nothing is free.
+fn pass_blocks(n: usize, states: &[u8], from: usize, size: usize) -> usize
+    requires { ⌜ (length (now states) ≡ n) × (from ≤ n) × (1 ≤ size) × NoneFree (now states) from ⌝ }
     ensures { λ r. ⌜ (r ≤ n) × NoneFree (now (states .entry)) r ⌝ }
 {
     let mut p = from;
-    while 64 <= n - p {
-        let first = states[p];
-        if first == Store::FREE {
+    while size <= n - p {
+        if shows(states, p, size) {
             return p;
         }
-        if shows(states, p) {
-            return p;
-        }
-        p += 64;
+        p += size;
     }
     p
+}
+
+// The lowest free number, or n, where no number below from is free: most often it is from, and else blocks of 64 and of 8 are passed.
+pub fn lowest_free(n: usize, states: &[u8], from: usize) -> usize
+    requires { ⌜ (length (now states) ≡ n) × (from ≤ n) × NoneFree (now states) from ⌝ }
+    ensures { λ r. ⌜ LowestFree n (now (states .entry)) r ⌝ }
+{
+    if n <= from {
+        return from;
+    }
+    if states[from] == Store::FREE {
+        return from;
+    }
+    let far = pass_blocks(n, states, from + 1, 64);
+    let near = pass_blocks(n, states, far, 8);
+    lowest_near(n, states, near)
 }
 
 // The word of four empty links, and the lowest of those whose last three are empty.

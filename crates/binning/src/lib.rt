@@ -74,6 +74,9 @@ fn bin_draft(
     empty_places(n, links, leaders, counts, p);
     states[p] = Store::FREE;
     let first = fall_four(n, states, leaders, counts, list, a, b, c, d);
+    if first == 0 {
+        return 0;
+    }
     letting_go::let_go(n, states, links, leaders, counts, list, first)
 }
 

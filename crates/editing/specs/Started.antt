@@ -20,7 +20,7 @@ use Rattle.tallies.specs.Stores.{exact-moves, wells-of, exact-of}
 use Rattle.falling.specs.Queue.{Lengths, Known}
 use Rattle.falling.specs.Steps.{ofCapacity, Going}
 use Rattle.falling.specs.Fall.{Begin, OthersCounted, Falling, fall-start, Tipping, Tipped, fallen}
-use Rattle.falling.specs.Freed.{Freed}
+use Rattle.falling.specs.Freed.{Freed, none-freed}
 use Rattle.editing.specs.Verdicts.{Worked, freedFrom, settled-did}
 
 -- ---- sound tables
@@ -131,3 +131,7 @@ module _ {c : Command} {s : Tables} {list : List ℕ} {e : Base} {counts xs : Li
     edited-done same z =
         settled-did (d .is) (d .on) (d .passes) (d .says) (d .begin .lengths .small)
         (z .all e (d .holds-n) (d .begin .known) (fallen all-fallen) same (f .rest))
+
+    -- no group fell
+    pub edited-none : first ≡ 0 → length list₁ ≡ length list → Worked c s list (freedFrom e states₁ (e .links) (s .leaders) counts) list₁ 0
+    edited-none none same = edited-done same (none-freed none)

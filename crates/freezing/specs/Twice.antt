@@ -1,5 +1,6 @@
 -- A second hand-in, of a piece that the seat holds already; and that every other freeze comes to itself.
 use mathlib.Core.Path.{_≡_, refl, sym, ap, _∙_}
+use mathlib.Core.Logic.{⊎-elim}
 use mathlib.Core.List.{List, []}
 use Prim.Native.Nat.{ℕ, _<_}
 use native.Mathlib.Omega.{arith}
@@ -13,6 +14,7 @@ use Rattle.rules.specs.Calls.{answered, acceptedBy, doneBy, listing, fresh, eff
 use Rattle.rules.specs.declared.Refusal.{Refusal}
 use Rattle.rules.specs.declared.Command.the-variants.{Freeze}
 use Rattle.rules.specs.declared.Answer.{Answer}
+use Rattle.laws.specs.Numbers.{lt-or}
 use Rattle.laws.specs.Verdicts.{Itself, itself-by}
 use Rattle.demands.specs.Sound.{OkStore}
 use Rattle.demands.specs.Again.{again-held, held-frozen, held-again, again-accepted, again-stays}
@@ -42,6 +44,12 @@ same-did s o p seat a some is = record { exact = done ∙ ap (effected s [] (Fre
 -- it is of a frozen piece
 frozen : (s : Store) (o : OkStore s) (p seat : ℕ) → T (isAgain s (Freeze p seat)) → Frozen (s .tables .base) p
 frozen s o p seat t = held-frozen o seat p (again-held s (Freeze p seat) t)
+
+-- a draft has no holds
+pub draft-unheld : {n : ℕ} {states links leaders holds counts register : List ℕ} → ReadyStore (storeBy (tablesOf n states links leaders holds counts) register) → (p seat : ℕ)
+    → states ! p ≡ 1 → heldBy register seat p ≡ 0
+unfolding state
+draft-unheld {register = register} ready p seat e = ⊎-elim (λ h. absurd (omega (arith, held-frozen (ok-of ready) seat p h .is))) (λ h. omega arith) (lt-or 0 (heldBy register seat p))
 
 module _ {n p seat : ℕ} {states links leaders holds counts register : List ℕ} (ready : ReadyStore (storeBy (tablesOf n states links leaders holds counts) register)) where
   pub twice-did : {a : Answer} → (heldBy register seat p ≡ 0 → ⊥) → a ≡ fresh

@@ -98,18 +98,25 @@ pub fn freeze(
         Name::Right => {}
     }
     let q = p as usize;
+    let line = register::find(register, seat, p);
     if states[q] == Store::DRAFT {
-        let line = register::find(register, seat, p);
         if !register::has_room(register, line, seat, p) {
             return Answer::Refused(Refusal::Register);
         }
         freeze_draft(n, states, links, leaders, holds, counts, into, work, q);
-        register::more(register, line, seat, p);
+        register::first(register, line, seat, p);
         return Store::fresh();
     }
-    let own = register::find(register, seat, p);
-    if register::number_at(register, own, seat, p) != 0 {
+    if register::number_at(register, line, seat, p) != 0 {
         return Store::fresh();
     }
-    holding::acquire(n, states, leaders, holds, counts, register, p, seat)
+    if holds[q] >= Store::HOLDS {
+        return Answer::Refused(Refusal::Limit);
+    }
+    if !register::has_room(register, line, seat, p) {
+        return Answer::Refused(Refusal::Register);
+    }
+    holding::add_hold(n, leaders, holds, counts, q);
+    register::first(register, line, seat, p);
+    Store::fresh()
 }

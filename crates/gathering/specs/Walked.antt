@@ -7,7 +7,6 @@ use native.Mathlib.Omega.{arith}
 use lib.ListN.{length, set, List·getD-eq-default}
 use lib.Seq.{getD-set-same}
 use Rattle.rules.specs.Lists.{_!_}
-use Rattle.rules.specs.Limits.{none}
 use Rattle.rules.specs.Reach.{Reach, here, chain}
 use Rattle.laws.specs.Numbers.{eq-or, lt-or}
 use Rattle.paths.specs.Ground.{linkIn}

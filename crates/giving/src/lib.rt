@@ -9,8 +9,7 @@ pub fn new(n: usize, states: &mut [u8], from: usize) -> Answer
     requires { ⌜ Giving n (now states) from ⌝ }
     ensures { λ r. ⌜ Gave n (now (states .entry)) r (now (states .exit)) ⌝ }
 {
-    let near = areas::none_free(n, states, from);
-    let p = areas::lowest_free(n, states, near);
+    let p = areas::lowest_free(n, states, from);
     if p == n {
         return Answer::Refused(Refusal::Full);
     }

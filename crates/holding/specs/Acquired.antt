@@ -13,17 +13,17 @@ use Rattle.rules.specs.Register.{Right, heldBy, isFull, oneMoreBy}
 use Rattle.rules.specs.Tables.{Store, tablesOf, storeBy}
 use Rattle.rules.specs.Commands.{noLine, withHolds}
 use Rattle.rules.specs.Calls.{answered, effect, fresh, ReadyStore, Did}
-use Rattle.rules.specs.declared.Refusal.the-variants.{Register}
+use Rattle.rules.specs.declared.Refusal.the-variants.{Limit, Register}
 use Rattle.rules.specs.declared.Command.the-variants.{Acquire}
 use Rattle.rules.specs.declared.Answer.{Answer}
 use Rattle.rules.specs.declared.Answer.the-variants.{Refused}
 use Rattle.laws.specs.Numbers.{lt-or}
 use Rattle.laws.specs.Calls.{ready-tables}
-use Rattle.laws.specs.Seated.{acquire-adds, acquire-itself, any-acquire, refused-line, done-more}
+use Rattle.laws.specs.Seated.{acquire-adds, acquire-itself, any-acquire, refused-tables, refused-line, done-more}
 use Rattle.naming.specs.Told.{NamedPiece}
 use Rattle.register.specs.Room.{Room}
 use Rattle.register.specs.Kept.{right-ranged}
-use Rattle.editing.specs.Holds.{leader-in, acquire-accepted, acquired}
+use Rattle.editing.specs.Holds.{leader-in, acquire-limit, acquire-accepted, acquired}
 
 -- the areas have their lengths, a frozen piece's leader has a count with room for one more, and the register is right
 pub record Acquiring (n : ℕ) (states leaders holds counts register : List ℕ) : Type 0 where
@@ -63,6 +63,21 @@ pub record OneMore (n : ℕ) (leaders holds counts : List ℕ) (p : ℕ) : Type 
   pub led : leaders ! p < n
   pub fits : counts ! (leaders ! p) < 1028097
 
+pub one-more : {n p : ℕ} {states leaders holds counts register : List ℕ} → Acquiring n states leaders holds counts register → NamedPiece n states p → (states ! p ≡ 1 → ⊥)
+    → holds ! p < 1000 → OneMore n leaders holds counts p
+one-more {n} {p} given named other few =
+    let led = given .led p named other in
+    record {
+      small = given .small;
+      below = named .below;
+      leaders-n = given .leaders-n;
+      holds-n = given .holds-n;
+      counts-n = given .counts-n;
+      few = few;
+      led = led .0;
+      fits = led .1;
+    }
+
 -- the answer r and the areas left are what acquire gives, whatever the links are
 pub record Acquired (n : ℕ) (states leaders holds counts register : List ℕ) (p seat : ℕ) (r : Answer) (holds′ counts′ register′ : List ℕ) : Type 0 where
   pub did : {links : List ℕ} → ReadyStore (storeBy (tablesOf n states links leaders holds counts) register)
@@ -86,6 +101,11 @@ room-told l i p {r} e f = subst T (room-said r (eqb (heldBy l i p) 0 & isFull l)
 
 module _ {n p seat : ℕ} {states links leaders holds counts register : List ℕ} (ready : ReadyStore (storeBy (tablesOf n states links leaders holds counts) register))
     (sits : seat < 32) (named : NamedPiece n states p) (other : states ! p ≡ 1 → ⊥) where
+  -- it has 1,000 holds
+  pub limited : 1000 ≤ holds ! p → Did (Acquire p seat) (storeBy (tablesOf n states links leaders holds counts) register) []
+      (effect (answered (Refused Limit)) (storeBy (tablesOf n states links leaders holds counts) register) [])
+  limited full = refused-tables (acquire-adds .seat) acquire-itself sits (any-acquire (acquire-limit (ready-tables ready) named other full))
+
   -- no line is free
   pub crowded : {r : Bool} → holds ! p < 1000 → not r ≡ true → r ≡ not (eqb (heldBy register seat p) 0 & isFull register)
       → Did (Acquire p seat) (storeBy (tablesOf n states links leaders holds counts) register) []

@@ -15,7 +15,7 @@ use rules::Refusal;
 use rules::Store;
 
 // One hold more on frozen p, and one more in its leader's count.
-fn add_hold(n: usize, leaders: &[u16], holds: &mut [u16], counts: &mut [u32], p: usize)
+pub fn add_hold(n: usize, leaders: &[u16], holds: &mut [u16], counts: &mut [u32], p: usize)
     requires { ⌜ OneMore n (now leaders) (now holds) (now counts) p ⌝ }
     ensures { λ _. ⌜ (now (holds .exit) ≡ set (now (holds .entry)) p (now (holds .entry) ! p + 1))
         × (now (counts .exit) ≡ set (now (counts .entry)) (now (leaders .entry) ! p) (now (counts .entry) ! (now (leaders .entry) ! p) + 1)) ⌝ }
@@ -83,6 +83,9 @@ fn let_hold_go(
     holds[p] = holds[p] - 1;
     counts[l] = counts[l] - 1;
     let first = letting_go::fall(n, states, leaders, counts, list, p, 0);
+    if first == 0 {
+        return 0;
+    }
     letting_go::let_go(n, states, links, leaders, counts, list, first)
 }
 

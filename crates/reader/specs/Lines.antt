@@ -18,10 +18,6 @@ use Rattle.lines.specs.Ending.{Unended, Closed, right, other, leaving, Reads}
 use Rattle.lines.specs.declared.Found.{Found}
 use Rattle.lines.specs.declared.Found.the-variants.{Right, Other}
 
--- the bytes that are looked at in one go for the end of a line
-abbrev pub block : ℕ
-block = 64
-
 -- no byte from `at` to before `end` ends a line
 abbrev pub NoEnd : List ℕ → ℕ → ℕ → Type 0
 NoEnd text at end = (i : ℕ) → at ≤ i → i < end → getD text i 0 ≡ 10 → ⊥
@@ -66,13 +62,15 @@ no-end-join text at mid end a b i l h e = by-test (leb mid i) refl
     by-test true x = b i (leb-true mid i x) h e
     by-test false x = a i l (leb-false mid i x) e
 
-pub no-end-back-block : (text : List ℕ) (r : ℕ) → block ≤ r → NoEnd text (r - block) (r - block + block) → NoEnd text r (length text)
-    → NoEnd text (r - block) (length text)
-no-end-back-block text r p a b = no-end-join text (r - block) r (length text) (λ i l h. a i l (omega arith)) b
+pub no-end-back-block : (text : List ℕ) (r size : ℕ) → size ≤ r → NoEnd text (r - size) (r - size + size) → NoEnd text r (length text)
+    → NoEnd text (r - size) (length text)
+no-end-back-block text r size p a b = no-end-join text (r - size) r (length text) (λ i l h. a i l (omega arith)) b
 
 -- a text does not end with a block in which no line ends
-pub block-inside : (text : List ℕ) (i : ℕ) → Closed text → i + block ≤ length text → NoEnd text i (i + block) → i + block < length text
-block-inside text i c h u = let x : i + 63 + 1 < length text = c (i + 63) (omega arith) (u (i + 63) (omega arith) (omega arith)) in omega arith
+pub block-inside : (text : List ℕ) (i size : ℕ) → Closed text → 1 ≤ size → i + size ≤ length text → NoEnd text i (i + size) → i + size < length text
+block-inside text i size c s h u =
+    let last = i + (size - 1) in
+    let x : last + 1 < length text = c last (omega arith) (u last (omega arith) (omega arith)) in omega arith
 
 -- a byte more of a block in which no line ends so far
 pub block-more : (text : List ℕ) (at i : ℕ) → NoEnd text at (at + i) → (getD text (at + i) 0 ≡ 10 → ⊥) → NoEnd text at (at + (i + 1))

@@ -14,7 +14,7 @@ ghost use Rattle.obeying.specs.Obeyed.{replyOf, Stands};
 ghost use Rattle.answers.specs.Wrote.{longest, Wrote};
 ghost use Rattle.answers.specs.Replies.{replyLine};
 ghost use Rattle.reader.specs.Answered.{Answered};
-ghost use Rattle.reader.specs.Lines.{block, NoEnd, LineEnd, Whole};
+ghost use Rattle.reader.specs.Lines.{NoEnd, LineEnd, Whole};
 ghost use Rattle.reader.specs.Fed.{Feeding, Stopped};
 ghost use Rattle.reader.specs.Ended.{Totalled, LastLine};
 use lines::Found;
@@ -92,17 +92,14 @@ pub struct Fed {
     pub from: usize,
 }
 
-// The bytes that are looked at in one go for the end of a line.
-const BLOCK: usize = 64;
-
-// Whether one of the bytes of the block from a place on ends a line.
-fn ends(text: &[u8], at: usize) -> bool
-    requires { ⌜ at + block ≤ length (now text) ⌝ }
-    ensures { λ r. ⌜ (r ≡ false → NoEnd (now (text .entry)) at (at + block)) ⌝ }
+// Whether one of the bytes of the block of this size from a place on ends a line.
+fn ends(text: &[u8], at: usize, size: usize) -> bool
+    requires { ⌜ at + size ≤ length (now text) ⌝ }
+    ensures { λ r. ⌜ (r ≡ false → NoEnd (now (text .entry)) at (at + size)) ⌝ }
 {
     let mut found = false;
-    let mut i = 0;
-    while i < BLOCK {
+    let mut i: usize = 0;
+    while i < size {
         if text[at + i] == 10 {
             found = true;
         }
@@ -111,31 +108,32 @@ fn ends(text: &[u8], at: usize) -> bool
     found
 }
 
-// Passes blocks in which no line ends.
-fn pass(text: &[u8], at: usize) -> usize
-    requires { ⌜ (at < length (now text)) × Closed (now text) ⌝ }
+// Passes blocks of this size in which no line ends.
+fn pass(text: &[u8], at: usize, size: usize) -> usize
+    requires { ⌜ (at < length (now text)) × (1 ≤ size) × Closed (now text) ⌝ }
     ensures { λ r. ⌜ (at ≤ r) × (r < length (now (text .entry))) × NoEnd (now (text .entry)) at r ⌝ }
 {
     let mut i = at;
-    while BLOCK <= text.len() - i {
-        if ends(text, i) {
+    while size <= text.len() - i {
+        if ends(text, i, size) {
             return i;
         }
-        i += BLOCK;
+        i += size;
     }
     i
 }
 
-// Passes blocks in which no line ends, from the end of a text back.
-fn pass_back(text: &[u8]) -> usize
+// Passes blocks of this size in which no line ends, back from a place behind which none does.
+fn pass_back(text: &[u8], from: usize, size: usize) -> usize
+    requires { ⌜ (from ≤ length (now text)) × (1 ≤ size) × NoEnd (now text) from (length (now text)) ⌝ }
     ensures { λ r. ⌜ (r ≤ length (now (text .entry))) × NoEnd (now (text .entry)) r (length (now (text .entry))) ⌝ }
 {
-    let mut r = text.len();
-    while BLOCK <= r {
-        if ends(text, r - BLOCK) {
+    let mut r = from;
+    while size <= r {
+        if ends(text, r - size, size) {
             return r;
         }
-        r -= BLOCK;
+        r -= size;
     }
     r
 }
@@ -154,7 +152,9 @@ fn line_end(text: &[u8], at: usize) -> usize
         i += 1;
         k += 1;
     }
-    let mut j = pass(text, i);
+    let far = pass(text, i, 256);
+    let near = pass(text, far, 64);
+    let mut j = pass(text, near, 16);
     while text[j] != 10 {
         j += 1;
     }
@@ -165,7 +165,8 @@ fn line_end(text: &[u8], at: usize) -> usize
 pub fn whole(text: &[u8]) -> usize
     ensures { λ r. ⌜ Whole (now (text .entry)) r ⌝ }
 {
-    let mut r = pass_back(text);
+    let far = pass_back(text, text.len(), 256);
+    let mut r = pass_back(text, far, 16);
     while 0 < r {
         if text[r - 1] == 10 {
             return r;

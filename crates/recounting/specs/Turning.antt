@@ -18,7 +18,6 @@ use Rattle.laws.specs.Kept.{sum-term}
 use Rattle.laws.specs.Numbers.{eq-or, set-cases}
 use Rattle.tallies.specs.Sums.{sum-zero, onlyIf-true, onlyIf-false}
 use Rattle.tallies.specs.Tally.{placed}
-use Rattle.recounting.specs.Merged.{within}
 use Rattle.recounting.specs.Standing.{Standing, freshLeaders, standing-or}
 use Rattle.recounting.specs.Taken.{Taking, Taken}
 use Rattle.recounting.specs.Summing.{Handing, Summed, summed-all}

@@ -1,59 +1,55 @@
--- The used lines move one up, by a loop, and the last of them becomes unused.
-use Rattle.register.specs.Order.{used-below, used-down}
-use Rattle.register.specs.Found.{Used}
+-- The lines move one up, block by block, until one is unused or to the last, which becomes unused.
 use Rattle.register.specs.Removed.{removed-one}
+use Rattle.register.specs.Moved.{Sunk}
 use Rattle.register.specs.Written.{rest-zero, line, line-size, line-other, line-first, line-second, line-third}
 use mathlib.Core.Path.{_≡_, refl, sym, ap, _∙_, subst}
 use mathlib.Core.Logic.{_⊎_, inl, inr, ⊎-elim}
 use mathlib.Core.List.{List}
-use Prim.Native.Nat.{ℕ, _+_, _-_, _*_, _≤_, _<_}
+use Prim.Native.Nat.{ℕ, _+_, _*_, _≤_, _<_}
 use native.Mathlib.Omega.{arith}
-use lib.ListN.{length, getD, set, length-set}
-use lib.Seq.{getD-set-same, getD-set-other}
-use Rattle.rules.specs.Limits.{entries}
+use lib.ListN.{length, getD}
+use Rattle.rules.specs.Limits.{lines, entries}
 use Rattle.rules.specs.Register.{numberAt, Ordered, removed}
 use Rattle.laws.specs.Numbers.{eq-or, lt-or}
 
 -- m is l, with the entries from line i on to j as they were three further on
-pub record Closed (l : List ℕ) (i last j : ℕ) (m : List ℕ) : Type 0 where
+pub record Closed (l : List ℕ) (i j : ℕ) (m : List ℕ) : Type 0 where
   pub size : length m ≡ entries
   pub inside : 3 * i ≤ j
-  pub most : j ≤ last
   pub front : (k : ℕ) → k < 3 * i → getD m k 0 ≡ getD l k 0
   pub done : (k : ℕ) → 3 * i ≤ k → k < j → getD m k 0 ≡ getD l (k + 3) 0
   pub rest : (k : ℕ) → j ≤ k → getD m k 0 ≡ getD l k 0
 
--- a used line is below the number of used lines
-pub below-used : {l : List ℕ} {i u : ℕ} → Ordered l → 0 < numberAt l i → Used l u → i < u
-below-used {l} {i} {u} o h w = ⊎-elim (λ g. g) (λ g. absurd (omega (arith, used-down l o u i g h, w .here))) (lt-or i u)
+pub closed-start : {l : List ℕ} {i : ℕ} → length l ≡ entries → Closed l i (3 * i) l
+closed-start z = record { size = z; inside = omega arith; front = λ k g. refl; done = λ k g b. absurd (omega arith); rest = λ k g. refl }
 
-pub closed-start : {l : List ℕ} {i u : ℕ} → Ordered l → 0 < numberAt l i → Used l u → Closed l i (3 * (u - 1)) (3 * i) l
-closed-start {l} {i} {u} o h w = record {
-  size = o .size;
-  inside = omega arith;
-  most = omega (arith, below-used o h w);
-  front = λ k g. refl;
-  done = λ k g b. absurd (omega arith);
-  rest = λ k g. refl;
-}
-
-pub closed-more : {l : List ℕ} {i last j : ℕ} {m : List ℕ} → last ≤ 3069 → Closed l i last j m → j < last → Closed l i last (j + 1) (set m j (getD m (j + 3) 0))
-closed-more {l} {i} {last} {j} {m} t v h = record {
-  size = length-set m j (getD m (j + 3) 0) ∙ v .size;
+pub closed-more : {l : List ℕ} {i from to : ℕ} {m r : List ℕ} → Closed l i from m → from ≤ to → Sunk m from to r → Closed l i to r
+closed-more {l} {i} {from} {to} {m} {r} v h w = record {
+  size = w .size ∙ v .size;
   inside = omega (arith, v .inside);
-  most = omega arith;
-  front = λ k g. getD-set-other m j k (getD m (j + 3) 0) 0 (λ e. omega (arith, v .inside)) ∙ v .front k g;
-  done = λ k g b.
-      ⊎-elim
-      (λ e.
-      subst (λ (a : ℕ). getD (set m j (getD m (j + 3) 0)) a 0 ≡ getD l (a + 3) 0) (sym e)
-      (getD-set-same m j (getD m (j + 3) 0) 0 (omega (arith, v .size)) ∙ v .rest (j + 3) (omega arith)))
-      (λ d. getD-set-other m j k (getD m (j + 3) 0) 0 d ∙ v .done k g (omega (arith, d)))
-      (eq-or k j);
-  rest = λ k g. getD-set-other m j k (getD m (j + 3) 0) 0 (λ e. omega arith) ∙ v .rest k (omega arith);
+  front = λ k g. w .low k (omega (arith, v .inside)) ∙ v .front k g;
+  done = λ k g b. ⊎-elim (λ x. w .low k x ∙ v .done k g x) (λ x. w .mid k x b ∙ v .rest (k + 3) (omega arith)) (lt-or k from);
+  rest = λ k g. w .high k g ∙ v .rest k (omega arith);
 }
 
--- the three entries of the last used line become 0
+-- one block of 32 lines more
+pub closed-block : {l : List ℕ} {i : ℕ} (q : ℕ) {m r : List ℕ} → Closed l i (3 * q) m → Sunk m (3 * q) (3 * q + 96) r → Closed l i (3 * (q + 32)) r
+closed-block {l} {i} q {m} {r} v w =
+    let e : 3 * q + 96 ≡ 3 * (q + 32) = omega arith in
+    subst (λ (j : ℕ). Closed l i j r) e (closed-more v (omega arith) w)
+
+-- line q is unused: all behind it is 0 already
+pub closed-unused : {l : List ℕ} {i : ℕ} (q : ℕ) {m : List ℕ} → Ordered l → i < lines → q ≤ lines → Closed l i (3 * q) m → getD m (3 * q + 2) 0 ≡ 0 → m ≡ removed l i
+unfolding numberAt
+closed-unused {l} {i} q {m} o h g v e =
+    removed-one l (o .size) i h m (v .size) (v .front)
+    (λ k b c. ⊎-elim (λ x. v .done k b x) (λ x. v .rest k x ∙ zero k x ∙ sym (zero (k + 3) (omega arith))) (lt-or k (3 * q)))
+    (λ k b c. ⊎-elim (λ x. v .done k (omega (arith, v .inside)) x ∙ zero (k + 3) (omega arith)) (λ x. v .rest k x ∙ zero k x) (lt-or k (3 * q)))
+  where
+    zero : (k : ℕ) → 3 * q ≤ k → getD l k 0 ≡ 0
+    zero k b = rest-zero l o q (sym (v .rest (3 * q + 2) (omega arith)) ∙ e) k b
+
+-- the three entries of the last line become 0
 module _ (m : List ℕ) (a : ℕ) (h : a + 2 < length m) where
   line-zero : (k : ℕ) → a ≤ k → k < a + 3 → getD (line m a 0 0 0) k 0 ≡ 0
   line-zero k b c = go (eq-or k a) (eq-or k (a + 1))
@@ -69,29 +65,10 @@ module _ (m : List ℕ) (a : ℕ) (h : a + 2 < length m) where
   line-low : (k : ℕ) → k < a → getD (line m a 0 0 0) k 0 ≡ getD m k 0
   line-low k b = line-other m a 0 0 0 k (λ y. omega arith) (λ y. omega arith) (λ y. omega arith)
 
-  line-high : (k : ℕ) → a + 3 ≤ k → getD (line m a 0 0 0) k 0 ≡ getD m k 0
-  line-high k b = line-other m a 0 0 0 k (λ y. omega arith) (λ y. omega arith) (λ y. omega arith)
-
-module _ {l : List ℕ} {i u j : ℕ} {m : List ℕ} (o : Ordered l) (h : 0 < numberAt l i) (w : Used l u) (v : Closed l i (3 * (u - 1)) j m) (g : 3 * (u - 1) ≤ j) where
-  last-length : 3 * (u - 1) + 2 < length m
-  last-length = omega (arith, w .most, v .size)
-
-  last-used : 3 * (u - 1) + 3 ≡ 3 * u
-  last-used = omega (arith, below-used o h w)
-
-  closed-mid : (k : ℕ) → 3 * i ≤ k → (k < 3 * (u - 1)) ⊎ (3 * (u - 1) ≤ k) → (k < 3 * u) ⊎ (3 * u ≤ k) → getD (line m (3 * (u - 1)) 0 0 0) k 0 ≡ getD l (k + 3) 0
-  closed-mid k b (inl x) y = line-low m (3 * (u - 1)) last-length k x ∙ v .done k b (omega arith)
-  closed-mid k b (inr x) (inl y) = line-zero m (3 * (u - 1)) last-length k x (omega (arith, last-used)) ∙ sym (rest-zero l o u w (k + 3) (omega (arith, last-used)))
-  closed-mid k b (inr x) (inr y) =
-      line-high m (3 * (u - 1)) last-length k (omega (arith, last-used)) ∙ v .rest k (omega (arith, v .most)) ∙ rest-zero l o u w k y ∙ sym (rest-zero l o u w (k + 3) (omega arith))
-
-  closed-last : (k : ℕ) → 3069 ≤ k → (k < 3 * u) ⊎ (3 * u ≤ k) → getD (line m (3 * (u - 1)) 0 0 0) k 0 ≡ 0
-  closed-last k b (inl y) = line-zero m (3 * (u - 1)) last-length k (omega (arith, w .most)) (omega (arith, last-used))
-  closed-last k b (inr y) = line-high m (3 * (u - 1)) last-length k (omega (arith, last-used)) ∙ v .rest k (omega (arith, v .most)) ∙ rest-zero l o u w k y
-
-  pub closed-end : line m (3 * (u - 1)) 0 0 0 ≡ removed l i
-  closed-end =
-      removed-one l (o .size) i (used-below l o i h) (line m (3 * (u - 1)) 0 0 0) (line-size m (3 * (u - 1)) 0 0 0 ∙ v .size)
-      (λ k b. line-low m (3 * (u - 1)) last-length k (omega (arith, v .inside, v .most)) ∙ v .front k b)
-      (λ k b c. closed-mid k b (lt-or k (3 * (u - 1))) (lt-or k (3 * u)))
-      (λ k b c. closed-last k b (lt-or k (3 * u)))
+pub closed-end : {l : List ℕ} {i : ℕ} {m : List ℕ} → length l ≡ entries → i < lines → Closed l i 3069 m → line m 3069 0 0 0 ≡ removed l i
+closed-end {l} {i} {m} z h v =
+    let inside : 3069 + 2 < length m = omega (arith, v .size) in
+    removed-one l z i h (line m 3069 0 0 0) (line-size m 3069 0 0 0 ∙ v .size)
+    (λ k b. line-low m 3069 inside k (omega arith) ∙ v .front k b)
+    (λ k b c. line-low m 3069 inside k c ∙ v .done k b c)
+    (λ k b c. line-zero m 3069 inside k b (omega arith))

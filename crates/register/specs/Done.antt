@@ -20,6 +20,10 @@ T-true : (b : Bool) → T b → b ≡ true
 T-true true t = refl
 T-true false t = absurd t
 
+not-true : (b : Bool) → (b ≡ true → ⊥) → b ≡ false
+not-true true d = absurd (d refl)
+not-true false d = refl
+
 and-last : (a : Bool) {b : Bool} → b ≡ true → (a & b) ≡ a
 and-last true e = e
 and-last false e = refl
@@ -57,6 +61,9 @@ module _ {l : List ℕ} {s p i : ℕ} (o : Ordered l) (f : Found l s p i) where
 
   pub line-none : hasLine l i s p ≡ false → heldBy l s p ≡ 0
   line-none t = has-none l o s p i f t
+
+  pub none-line : heldBy l s p ≡ 0 → hasLine l i s p ≡ false
+  none-line e = not-true (hasLine l i s p) (λ t. omega (arith, has-told l i s p t .0, has-held l o s p i f t))
 
   pub insert-inside : numberAt l 1023 ≡ 0 → i < lines
   insert-inside e = insert-room l o s p i f e

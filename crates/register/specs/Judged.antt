@@ -102,7 +102,7 @@ module _ {n : ℕ} {l sums₀ : List ℕ} {low i : ℕ} {sums : List ℕ} (v : C
 
     -- an unused line, and behind it something that is not 0
     pub rest-wrong : numberAt l i ≡ 0 → (ZeroFrom l (3 * i) entries → ⊥) → Right n l → ⊥
-    rest-wrong e f r = f (λ k h g. rest-zero l (r .ordered) i (record { most = v .most; before = λ j u. v .all j u .used; here = e }) k h)
+    rest-wrong e f r = f (λ k h g. rest-zero l (r .ordered) i e k h)
 
     pub rest-said : (r : Bool) → getD l (3 * i + 2) 0 ≡ 0 → ZeroSaid l (3 * i) r → RightSaid n l sums₀ sums r
     unfolding numberAt

@@ -13,6 +13,7 @@ pub mod Ordering
 pub mod Entries
 pub mod Removed
 pub mod Written
+pub mod Moved
 pub mod Opened
 pub mod Closed
 pub mod Same

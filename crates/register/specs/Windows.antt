@@ -46,6 +46,23 @@ module _ {l : List ℕ} (o : Ordered l) {i : ℕ} (h : 0 < i) where
   unfolding seatAt pieceAt
   up-to-ends w g = up-to w g
 
+-- all used lines are among the first m
+pub record Among (l : List ℕ) (m : ℕ) : Type 0 where
+  pub some : 0 < m
+  pub most : m ≤ lines
+  pub past : (i : ℕ) → m ≤ i → numberAt l i ≡ 0
+
+module _ {l : List ℕ} (o : Ordered l) where
+  unused-on : (i j : ℕ) → i ≤ j → numberAt l i ≡ 0 → numberAt l j ≡ 0
+  unused-on i j h e = ⊎-elim (λ u. absurd (omega (arith, used-down l o i j h u))) (λ u. omega arith) (lt-or 0 (numberAt l j))
+
+  pub among-here : (m : ℕ) → 0 < m → m ≤ lines → getD l (3 * m + 2) 0 ≡ 0 → Among l m
+  unfolding numberAt
+  among-here m h g e = record { some = h; most = g; past = λ i x. unused-on m i x e }
+
+  pub among-all : Among l lines
+  among-all = record { some = omega arith; most = le-refl lines; past = λ i h. number-past l (o .size) i h }
+
 -- ---- the line of a pair
 
 -- the lines below `base` are before the pair, and those behind the window are not
@@ -55,10 +72,10 @@ pub record Window (l : List ℕ) (s p base size : ℕ) : Type 0 where
   pub before : (i : ℕ) → i < base → (0 < numberAt l i) × (orderAt l i < order s p)
   pub past : (i : ℕ) → base + size ≤ i → 0 < numberAt l i → order s p ≤ orderAt l i
 
-module _ {l : List ℕ} (o : Ordered l) {s p : ℕ} where
-  pub window-start : Window l s p 0 lines
-  window-start = record { some = omega arith; most = le-refl lines; before = λ i h. absurd (omega arith); past = λ i h u. absurd (omega (arith, number-past l (o .size) i h)) }
+pub window-start : {l : List ℕ} {s p m : ℕ} → Among l m → Window l s p 0 m
+window-start a = record { some = a .some; most = omega (arith, a .most); before = λ i h. absurd (omega arith); past = λ i h u. absurd (omega (arith, a .past i (omega arith))) }
 
+module _ {l : List ℕ} (o : Ordered l) {s p : ℕ} where
   module _ {base size : ℕ} (v : Window l s p base size) {half k : ℕ} (b : Bool) (w : UpTo l k (base + half) b) (q : k ≡ order s p) (h : half + half ≤ size) (g : half < size) where
     pub window-up : b ≡ true → Window l s p (base + half) (size - half)
     window-up t =
@@ -101,13 +118,10 @@ pub record Parted (l : List ℕ) (base size : ℕ) : Type 0 where
   pub before : (i : ℕ) → i < base → 0 < numberAt l i
   pub past : (i : ℕ) → base + size ≤ i → numberAt l i ≡ 0
 
+pub parted-start : {l : List ℕ} {m : ℕ} → Among l m → Parted l 0 m
+parted-start a = record { some = a .some; most = omega (arith, a .most); before = λ i h. absurd (omega arith); past = λ i h. a .past i (omega arith) }
+
 module _ {l : List ℕ} (o : Ordered l) where
-  unused-on : (i j : ℕ) → i ≤ j → numberAt l i ≡ 0 → numberAt l j ≡ 0
-  unused-on i j h e = ⊎-elim (λ u. absurd (omega (arith, used-down l o i j h u))) (λ u. omega arith) (lt-or 0 (numberAt l j))
-
-  pub parted-start : Parted l 0 lines
-  parted-start = record { some = omega arith; most = le-refl lines; before = λ i h. absurd (omega arith); past = λ i h. number-past l (o .size) i h }
-
   module _ {base size : ℕ} (v : Parted l base size) {half : ℕ} (h : half + half ≤ size) (g : half < size) where
     pub parted-up : (getD l (3 * (base + half) + 2) 0 ≡ 0 → ⊥) → Parted l (base + half) (size - half)
     unfolding numberAt
@@ -116,7 +130,7 @@ module _ {l : List ℕ} (o : Ordered l) where
 
     pub parted-stay : getD l (3 * (base + half) + 2) 0 ≡ 0 → Parted l base (size - half)
     unfolding numberAt
-    parted-stay t = record { some = omega arith; most = omega (arith, v .most); before = v .before; past = λ i y. unused-on (base + half) i (omega arith) t }
+    parted-stay t = record { some = omega arith; most = omega (arith, v .most); before = v .before; past = λ i y. unused-on o (base + half) i (omega arith) t }
 
   module _ {base size : ℕ} (v : Parted l base size) (h : size ≤ 1) where
     pub parted-here : getD l (3 * base + 2) 0 ≡ 0 → Used l base

@@ -1,6 +1,5 @@
--- Three entries written, and the zeros behind the used lines.
+-- Three entries written, and the zeros behind an unused line.
 use Rattle.register.specs.Order.{used-down}
-use Rattle.register.specs.Found.{Used}
 use mathlib.Core.Path.{_≡_, _∙_, subst}
 use mathlib.Core.Logic.{⊎-elim}
 use mathlib.Core.List.{List}
@@ -11,11 +10,11 @@ use lib.Seq.{getD-set-same, getD-set-other}
 use Rattle.rules.specs.Register.{seatAt, pieceAt, numberAt, Ordered}
 use Rattle.laws.specs.Numbers.{lt-or}
 
--- ---- behind the used lines all entries are 0
+-- ---- from an unused line on all entries are 0
 
-module _ (l : List ℕ) (o : Ordered l) (u : ℕ) (w : Used l u) where
+module _ (l : List ℕ) (o : Ordered l) (u : ℕ) (w : numberAt l u ≡ 0) where
   unused-line : (i : ℕ) → u ≤ i → numberAt l i ≡ 0
-  unused-line i h = ⊎-elim (λ g. absurd (omega (arith, used-down l o u i h g, w .here))) (λ g. omega arith) (lt-or 0 (numberAt l i))
+  unused-line i h = ⊎-elim (λ g. absurd (omega (arith, used-down l o u i h g))) (λ g. omega arith) (lt-or 0 (numberAt l i))
 
   zero-entry : (i d : ℕ) → u ≤ i → d < 3 → getD l (3 * i + d) 0 ≡ 0
   unfolding seatAt pieceAt numberAt

@@ -11,7 +11,9 @@ ghost use Rattle.rules.specs.Lists.{_!_};
 ghost use Rattle.rules.specs.Below.{every};
 ghost use Rattle.rules.specs.Register.{numberAt, order, Ordered, isRight, heldBy, heldIn, isBefore, hasLine, isFull, inserted, removed, oneMoreBy, oneLessBy};
 ghost use Rattle.register.specs.Found.{Found, Used};
-ghost use Rattle.register.specs.Windows.{Ranked, UpTo};
+ghost use Rattle.register.specs.Windows.{Ranked, UpTo, Among};
+ghost use Rattle.register.specs.Moved.{Movable, Lifted, Sunk};
+ghost use Rattle.register.specs.Opened.{Opened};
 ghost use Rattle.register.specs.Room.{Room};
 ghost use Rattle.register.specs.Zeros.{ZeroSaid};
 ghost use Rattle.register.specs.Judged.{RightSaid};
@@ -60,14 +62,14 @@ fn is_up_to(register: &[u16], i: usize, pair: u32) -> bool
     rank_of(register[3 * i], register[3 * i + 1]) < pair
 }
 
-// The line where the pair stands or would stand: the first that is unused or not before it.
-pub fn find(register: &[u16], seat: u16, piece: u16) -> usize
-    requires { ⌜ Ordered (now register) ⌝ }
+// The line where the pair stands or would stand, where all used lines are among the first `many`.
+fn find_among(register: &[u16], many: usize, seat: u16, piece: u16) -> usize
+    requires { ⌜ Ordered (now register) × Among (now register) many ⌝ }
     ensures { λ r. ⌜ Found (now (register .entry)) seat piece r ⌝ }
 {
     let pair = order_of(seat, piece);
     let mut base: usize = 0;
-    let mut size: usize = LINES;
+    let mut size = many;
     while 1 < size {
         let half = size / 2;
         let middle = base + half;
@@ -82,13 +84,33 @@ pub fn find(register: &[u16], seat: u16, piece: u16) -> usize
     base
 }
 
-// The number of used lines.
-pub fn used(register: &[u16]) -> usize
+// The line where the pair stands or would stand: the first that is unused or not before it. Few lines are halved less often.
+pub fn find(register: &[u16], seat: u16, piece: u16) -> usize
     requires { ⌜ Ordered (now register) ⌝ }
+    ensures { λ r. ⌜ Found (now (register .entry)) seat piece r ⌝ }
+{
+    if register[8] == 0 {
+        return find_among(register, 2, seat, piece);
+    }
+    if register[26] == 0 {
+        return find_among(register, 8, seat, piece);
+    }
+    if register[98] == 0 {
+        return find_among(register, 32, seat, piece);
+    }
+    if register[386] == 0 {
+        return find_among(register, 128, seat, piece);
+    }
+    find_among(register, LINES, seat, piece)
+}
+
+// The number of used lines, where all are among the first `many`.
+fn used_among(register: &[u16], many: usize) -> usize
+    requires { ⌜ Ordered (now register) × Among (now register) many ⌝ }
     ensures { λ r. ⌜ Used (now (register .entry)) r ⌝ }
 {
     let mut base: usize = 0;
-    let mut size: usize = LINES;
+    let mut size = many;
     while 1 < size {
         let half = size / 2;
         let middle = base + half;
@@ -101,6 +123,26 @@ pub fn used(register: &[u16]) -> usize
         return base;
     }
     base + 1
+}
+
+// The number of used lines.
+fn used(register: &[u16]) -> usize
+    requires { ⌜ Ordered (now register) ⌝ }
+    ensures { λ r. ⌜ Used (now (register .entry)) r ⌝ }
+{
+    if register[8] == 0 {
+        return used_among(register, 2);
+    }
+    if register[26] == 0 {
+        return used_among(register, 8);
+    }
+    if register[98] == 0 {
+        return used_among(register, 32);
+    }
+    if register[386] == 0 {
+        return used_among(register, 128);
+    }
+    used_among(register, LINES)
 }
 
 // Whether line i is used, by this seat and piece.
@@ -150,38 +192,86 @@ pub fn has_room(register: &[u16], i: usize, seat: u16, piece: u16) -> bool
     number_at(register, i, seat, piece) != 0
 }
 
-// A line with number 1 comes in at line i, where the pair belongs: the used lines from there on move one further.
+// So many entries from `from` on stand three further, the last one first.
+fn lift(register: &mut [u16], from: usize, many: usize)
+    requires { ⌜ Movable (now register) from many ⌝ }
+    ensures { λ _. ⌜ Lifted (now (register .entry)) from (from + many) (now (register .exit)) ⌝ }
+{
+    let mut k = many;
+    while 0 < k {
+        k -= 1;
+        register[from + k + 3] = register[from + k];
+    }
+}
+
+// So many entries from `from` on become those three further on.
+fn sink(register: &mut [u16], from: usize, many: usize)
+    requires { ⌜ Movable (now register) from many ⌝ }
+    ensures { λ _. ⌜ Sunk (now (register .entry)) from (from + many) (now (register .exit)) ⌝ }
+{
+    let mut k: usize = 0;
+    while k < many {
+        register[from + k] = register[from + k + 3];
+        k += 1;
+    }
+}
+
+// How many blocks of 32 lines from line i on are still to move one further: the last of them may have unused lines, unless it would pass the end.
+fn open_last(register: &mut [u16], i: usize, lines: usize) -> usize
+    requires { ⌜ Ordered (now register) × Used (now register) lines × (i ≤ lines) × (lines ≤ 1023) ⌝ }
+    ensures { λ r. ⌜ Opened (now (register .entry)) i (3 * i + 96 * r) (now (register .exit)) ⌝ }
+{
+    let blocks = (lines - i + 31) / 32;
+    if i + 32 * blocks < LINES {
+        return blocks;
+    }
+    let from = 3 * i + 96 * (blocks - 1);
+    lift(register, from, 3 * lines - from);
+    blocks - 1
+}
+
+// A line with number 1 comes in at line i, where the pair belongs: the lines from there on move one further, in blocks, which compile to vector instructions.
 fn insert(register: &mut [u16], i: usize, seat: u16, piece: u16)
     requires { ⌜ Ordered (now register) × Found (now register) seat piece i × (numberAt (now register) 1023 ≡ 0) ⌝ }
     ensures { λ _. ⌜ now (register .exit) ≡ inserted (now (register .entry)) i seat piece ⌝ }
 {
     let from = 3 * i;
     let lines = used(register);
-    let mut j = 3 * lines;
-    while from < j {
-        j -= 1;
-        register[j + 3] = register[j];
+    let mut blocks = open_last(register, i, lines);
+    while 0 < blocks {
+        blocks -= 1;
+        lift(register, from + 96 * blocks, 96);
     }
     register[from] = seat;
     register[from + 1] = piece;
     register[from + 2] = 1;
 }
 
-// Line i goes: the used lines behind it move up, and the last of them becomes unused.
+// Line i goes: the lines behind it move up, in blocks of 32, until one is unused.
 fn remove(register: &mut [u16], i: usize)
     requires { ⌜ Ordered (now register) × (0 < numberAt (now register) i) ⌝ }
     ensures { λ _. ⌜ now (register .exit) ≡ removed (now (register .entry)) i ⌝ }
 {
-    let lines = used(register);
-    let last = 3 * (lines - 1);
-    let mut j = 3 * i;
-    while j < last {
-        register[j] = register[j + 3];
-        j += 1;
+    let mut m = i;
+    while m + 32 < LINES {
+        sink(register, 3 * m, 96);
+        m += 32;
+        if register[3 * m + 2] == 0 {
+            return;
+        }
     }
-    register[last] = 0;
-    register[last + 1] = 0;
-    register[last + 2] = 0;
+    sink(register, 3 * m, 3069 - 3 * m);
+    register[3069] = 0;
+    register[3070] = 0;
+    register[3071] = 0;
+}
+
+// A first hold of the seat on the piece, where line i is found for them: a new line comes in its place.
+pub fn first(register: &mut [u16], i: usize, seat: u16, piece: u16)
+    requires { ⌜ Ordered (now register) × Found (now register) seat piece i × Room (now register) seat piece × (heldBy (now register) seat piece ≡ 0) ⌝ }
+    ensures { λ _. ⌜ now (register .exit) ≡ oneMoreBy (now (register .entry)) seat piece ⌝ }
+{
+    insert(register, i, seat, piece);
 }
 
 // One hold more of the seat on the piece, where line i is found for them: it counts one more, or a new line comes in its place.

@@ -33,6 +33,9 @@ fn set_place(
 {
     let old = linking::relink(n, links, leaders, counts, p, k, t);
     let first = letting_go::fall(n, states, leaders, counts, list, old, 0);
+    if first == 0 {
+        return 0;
+    }
     letting_go::let_go(n, states, links, leaders, counts, list, first)
 }
 

@@ -1,22 +1,34 @@
 -- `put_done` writes the line of an accepted command, part after part. Assumes nothing.
 use native.Mathlib.Omega.{arith}
 use borrow.Author.Needs.{needs}
-use Rattle.answers.specs.Writes.{then, done-line, none-line}
+use Rattle.answers.specs.Writes.{then, done-line, unfreed-line}
 use Rattle.answers.proofs.put_done.Statement.{statement}
 use Rattle.answers.proofs.put_done.Tie as tie
 
-put-none-requires : tie.Need-put-none-requires
-put-none-requires c κs = search needs
+put-plain-requires : tie.Need-put-plain-requires
+put-plain-requires c κs = search needs
 
 same-length : tie.Need-same-length
 same-length c = search needs
 
 returns : tie.Need-returns
 returns c =
-    let done : tie.After-put-none = search in
+    let done : tie.After-put-plain = search in
     let none : tie.Then2 = search in
     let freed : tie.Then1 = search in
-    (rw (none-line _ _ _ (freed .if1 .taken) (none .if2 .taken)) (done .put-none .ensures .0), omega (arith, done .put-none .ensures .1))
+    (rw (unfreed-line _ _ _ (freed .if1 .taken), none .if2 .taken) (done .put-plain .ensures .0), omega (arith, done .put-plain .ensures .1))
+
+put-plain-requires-2 : tie.Need-put-plain-requires-2
+put-plain-requires-2 c κs = search needs
+
+same-length-2 : tie.Need-same-length-2
+same-length-2 c = search needs
+
+returns-2 : tie.Need-returns-2
+returns-2 c =
+    let done : tie.After-put-plain2 = search in
+    let freed : tie.Then1 = search in
+    (rw (unfreed-line _ _ _ (freed .if1 .taken)) (done .put-plain2 .ensures .0), omega (arith, done .put-plain2 .ensures .1))
 
 put-number-requires : tie.Need-put-number-requires
 put-number-requires c κs = search needs
@@ -36,11 +48,11 @@ put-freed-requires c κs = search needs
 put-byte-requires-2 : tie.Need-put-byte-requires-2
 put-byte-requires-2 c κs = search needs
 
-same-length-2 : tie.Need-same-length-2
-same-length-2 c = search needs
+same-length-3 : tie.Need-same-length-3
+same-length-3 c = search needs
 
-returns-2 : tie.Need-returns-2
-returns-2 c =
+returns-3 : tie.Need-returns-3
+returns-3 c =
     let done : tie.After-put-byte2 = search in
     let at5 : tie.After-put-freed = search in
     let at4 : tie.After-put-word = search in
@@ -57,14 +69,17 @@ pub put-done-spec : {M : Type 1} → statement M
 put-done-spec =
     tie.close
     (tie.spec
-    put-none-requires
+    put-plain-requires
     same-length
     returns
+    put-plain-requires-2
+    same-length-2
+    returns-2
     put-number-requires
     put-byte-requires
     put-value-requires
     put-word-requires
     put-freed-requires
     put-byte-requires-2
-    same-length-2
-    returns-2)
+    same-length-3
+    returns-3)

@@ -5,8 +5,8 @@ use Rattle.answers.proofs.put_look.Tie as tie
 enum-known-seen : tie.Need-enum-known-seen
 enum-known-seen c = c .match .keys1
 
-put-piece-requires : tie.Need-put-piece-requires
-put-piece-requires c κs = let lent : tie.Start = search in lent .pre
+put-seen-requires : tie.Need-put-seen-requires
+put-seen-requires c κs = let lent : tie.Start = search in lent .pre
 
 enum-known-seen-2 : tie.Need-enum-known-seen-2
 enum-known-seen-2 c = c .match .keys2
@@ -15,13 +15,13 @@ put-refused-requires : tie.Need-put-refused-requires
 put-refused-requires c κs = let lent : tie.Start = search in lent .pre
 
 same-length : tie.Need-same-length
-same-length c = c .before .before .put-piece .kept .0
+same-length c = c .before .before .put-seen .kept .0
 
 returns : tie.Need-returns
 returns c =
-    let done : tie.After-put-piece = search in
+    let done : tie.After-put-seen = search in
     let told : tie.After-seen = search in
-    rw (told .seen .given .1) (done .put-piece .ensures)
+    rw (told .seen .given .1) (done .put-seen .ensures)
 
 same-length-2 : tie.Need-same-length-2
 same-length-2 c = c .before .before .put-refused .kept .0
@@ -37,7 +37,7 @@ put-look-spec =
     tie.close
     (tie.spec
     enum-known-seen
-    put-piece-requires
+    put-seen-requires
     enum-known-seen-2
     put-refused-requires
     same-length

@@ -1,5 +1,5 @@
 -- `put_number` writes a number in decimal: up to three digits one by one, more of them by their width. Assumes nothing.
-use Prim.Native.Nat.{_/_}
+use Prim.Native.Nat.{_-_, _*_, _/_}
 use native.Mathlib.Omega.{arith}
 use borrow.Author.Needs.{needs}
 use Rattle.answers.specs.Writes.{then}
@@ -25,67 +25,50 @@ returns c =
     let small : tie.Then1 = search in
     (rw (decimal-small _ (small .if1 .taken)) (done .put-byte .ensures), omega (arith, done .put-byte .ensures .place))
 
-put-last-requires : tie.Need-put-last-requires
-put-last-requires c κs = search needs
-
-put-last-requires-2 : tie.Need-put-last-requires-2
-put-last-requires-2 c κs =
-    let at1 : tie.After-put-last = search in
-    let lent : tie.Start = search in
-    omega (arith, at1 .put-last .ensures .place, length-digits 1 (lent .args .v / 10))
+put-two-requires : tie.Need-put-two-requires
+put-two-requires c κs = (omega (arith, c .before .before .before .before .pre), c .before .if2 .taken)
 
 same-length-2 : tie.Need-same-length-2
 same-length-2 c = search needs
 
 returns-2 : tie.Need-returns-2
 returns-2 c =
-    let done : tie.After-put-last2 = search in
-    let at1 : tie.After-put-last = search in
-    let lent : tie.Start = search in
-    let v = lent .args .v in (
-      rw (decimal-two v (omega arith) (omega arith)) (then (at1 .put-last .ensures) (done .put-last2 .ensures)),
-      omega (arith, at1 .put-last .ensures .place, done .put-last2 .ensures .place, length-digits 1 (v / 10), length-digits 1 v),
-    )
+    let two = c .before .before .put-two .ensures in
+    let few = c .before .before .before .before in
+    let v = few .before .before .before .args .v in
+    (rw (decimal-two v (few .before .if1 .left) (few .if2 .taken)) two, omega (arith, two .place, length-digits 2 v))
 
-put-last-requires-3 : tie.Need-put-last-requires-3
-put-last-requires-3 c κs = search needs
+cast-h : tie.Need-cast-h
+cast-h c = omega (arith, c .if3 .taken)
 
-put-last-requires-4 : tie.Need-put-last-requires-4
-put-last-requires-4 c κs =
-    let at1 : tie.After-put-last3 = search in
-    let lent : tie.Start = search in
-    omega (arith, at1 .put-last3 .ensures .place, length-digits 1 (lent .args .v / 10 / 10))
+add-put-byte-2 : tie.Need-add-put-byte-2
+add-put-byte-2 c = omega (arith, c .before .if3 .taken)
 
-put-last-requires-5 : tie.Need-put-last-requires-5
-put-last-requires-5 c κs =
-    let at2 : tie.After-put-last4 = search in
-    let at1 : tie.After-put-last3 = search in
-    let lent : tie.Start = search in
-    let v = lent .args .v in
-    omega
-    (arith, at1 .put-last3 .ensures .place, at2 .put-last4 .ensures .place, length-digits 1 (v / 10 / 10), length-digits 1 (v / 10))
+put-byte-requires-2 : tie.Need-put-byte-requires-2
+put-byte-requires-2 c κs = omega (arith, c .before .before .before .before .before .pre)
+
+mul-put-two : tie.Need-mul-put-two
+mul-put-two c = omega (arith, c .before .before .before .before .before .if3 .taken)
+
+sub-put-two : tie.Need-sub-put-two
+sub-put-two c = omega arith
+
+put-two-requires-2 : tie.Need-put-two-requires-2
+put-two-requires-2 c κs =
+    let first = c .before .before .before .put-byte2 in
+    (omega (arith, c .before .before .before .before .before .before .before .before .before .pre, first .ensures .place, first .kept .0), omega arith)
 
 same-length-3 : tie.Need-same-length-3
 same-length-3 c = search needs
 
 returns-3 : tie.Need-returns-3
 returns-3 c =
-    let done : tie.After-put-last5 = search in
-    let at2 : tie.After-put-last4 = search in
-    let at1 : tie.After-put-last3 = search in
-    let lent : tie.Start = search in
-    let v = lent .args .v in
-    let written = then (at1 .put-last3 .ensures) (then (at2 .put-last4 .ensures) (done .put-last5 .ensures)) in (
-      rw (decimal-three v (omega arith) (omega arith)) written,
-      omega (
-        arith,
-        at1 .put-last3 .ensures .place,
-        at2 .put-last4 .ensures .place,
-        done .put-last5 .ensures .place,
-        length-digits 1 (v / 10 / 10),
-        length-digits 1 (v / 10),
-        length-digits 1 v,
-      ),
+    let two = c .before .before .put-two2 .ensures in
+    let one = c .before .before .before .before .before .before .put-byte2 .ensures in
+    let few = c .before .before .before .before .before .before .before .before in
+    let v = few .before .before .before .before .args .v in (
+      rw (decimal-three v (few .before .if2 .left) (few .if3 .taken)) (then one two),
+      omega (arith, one .place, two .place, length-digits 2 (v - 100 * (v / 100))),
     )
 
 width-requires : tie.Need-width-requires
@@ -118,13 +101,15 @@ put-number-spec =
     put-byte-requires
     same-length
     returns
-    put-last-requires
-    put-last-requires-2
+    put-two-requires
     same-length-2
     returns-2
-    put-last-requires-3
-    put-last-requires-4
-    put-last-requires-5
+    cast-h
+    add-put-byte-2
+    put-byte-requires-2
+    mul-put-two
+    sub-put-two
+    put-two-requires-2
     same-length-3
     returns-3
     width-requires

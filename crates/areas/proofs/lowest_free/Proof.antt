@@ -1,49 +1,44 @@
--- `areas::lowest_free` finds the lowest free number: nothing below the loop's p is free. Assumes nothing.
-use Prim.Native.Nat.{_-_, _≤_}
+-- `areas::lowest_free` meets its contract: it is `from`, or it is found behind the blocks without a free number. Assumes nothing.
 use native.Mathlib.Omega.{arith}
-use borrow.Author.Needs.{needs}
 use borrow.Author.Count.{below-more}
-use Rattle.areas.specs.Lowest.{NoneFree}
 use Rattle.areas.proofs.lowest_free.Statement.{statement}
 use Rattle.areas.proofs.lowest_free.Tie as tie
 
-abbrev Inv-loop : tie.InvT-loop
-Inv-loop n states from p₀ p = (p ≤ n) × NoneFree states p
+returns : tie.Need-returns
+returns c = record { most = c .before .before .pre .1; before = c .before .before .pre .2; is = λ l. absurd (omega (arith, c .if1 .taken)) }
 
-abbrev μ-loop : tie.MeasureT-loop
-μ-loop n states from p₀ p = n - p
+shared-slice-read-if2 : tie.Need-shared-slice-read-if2
+shared-slice-read-if2 c = omega (arith, c .before .if1 .left, c .before .before .before .pre .0)
 
-loop-holds : tie.Need-loop-holds Inv-loop μ-loop
-loop-holds c = (search needs, c .pre .2)
+returns-2 : tie.Need-returns-2
+returns-2 c = record { most = c .before .before .before .before .pre .1; before = c .before .before .before .before .pre .2; is = λ l. c .if2 .taken }
 
-shared-slice-read-if1 : tie.Need-shared-slice-read-if1 Inv-loop μ-loop
-shared-slice-read-if1 c = search needs
+add-pass-blocks : tie.Need-add-pass-blocks
+add-pass-blocks c = omega (arith, c .before .before .if1 .left, c .before .before .before .before .fits .n)
 
-returns : tie.Need-returns Inv-loop μ-loop
-returns c = record { most = search needs; before = c .before .before .before .loop .inv .1; is = λ l. c .if1 .taken }
+pass-blocks-requires : tie.Need-pass-blocks-requires
+pass-blocks-requires c κs =
+    let given = c .before .before .before .before .pre in
+    (given .0, omega (arith, c .before .before .if1 .left), omega arith, below-more _ _ (given .2) (c .if2 .left))
 
-add-p : tie.Need-add-p Inv-loop μ-loop
-add-p c = search needs
+pass-blocks-requires-2 : tie.Need-pass-blocks-requires-2
+pass-blocks-requires-2 c κs = (c .before .before .before .before .before .pre .0, c .pass-blocks .ensures .0, omega arith, c .pass-blocks .ensures .1)
 
-loop-less : tie.Need-loop-less Inv-loop μ-loop
-loop-less c = search needs
+lowest-near-requires : tie.Need-lowest-near-requires
+lowest-near-requires c κs = (c .before .before .before .before .before .before .pre .0, c .pass-blocks2 .ensures .0, c .pass-blocks2 .ensures .1)
 
-loop-again : tie.Need-loop-again Inv-loop μ-loop
-loop-again c = (search needs, below-more _ _ (c .before .before .before .loop .inv .1) (c .if1 .left))
-
-returns-2 : tie.Need-returns-2 Inv-loop μ-loop
-returns-2 c = record { most = search needs; before = c .before .loop .inv .1; is = λ l. absurd (omega arith) }
+returns-3 : tie.Need-returns-3
+returns-3 c = c .lowest-near .ensures
 
 pub lowest-free-spec : {M : Type 1} → statement M
 lowest-free-spec =
     tie.close
     (tie.spec
-    Inv-loop
-    μ-loop
-    loop-holds
-    shared-slice-read-if1
     returns
-    add-p
-    loop-less
-    loop-again
-    returns-2)
+    shared-slice-read-if2
+    returns-2
+    add-pass-blocks
+    pass-blocks-requires
+    pass-blocks-requires-2
+    lowest-near-requires
+    returns-3)

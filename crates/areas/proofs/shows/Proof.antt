@@ -7,10 +7,10 @@ use Rattle.areas.proofs.shows.Statement.{statement}
 use Rattle.areas.proofs.shows.Tie as tie
 
 abbrev Inv-loop : tie.InvT-loop
-Inv-loop states from some₀ i₀ some i = (i ≤ 64) × Shows states from i some
+Inv-loop states from size some₀ i₀ some i = (i ≤ size) × Shows states from i some
 
 abbrev μ-loop : tie.MeasureT-loop
-μ-loop states from some₀ i₀ some i = 64 - i
+μ-loop states from size some₀ i₀ some i = size - i
 
 loop-holds : tie.Need-loop-holds Inv-loop μ-loop
 loop-holds c = (omega arith, shows-start)

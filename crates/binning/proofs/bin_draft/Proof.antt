@@ -1,4 +1,4 @@
--- `binning::bin_draft` meets its contract. The emptied tables are the edited base; at most the groups that p named fell, and the letting go leaves what the rules say.
+-- `binning::bin_draft` meets its contract. The emptied tables are the edited base; at most the groups that p named fell, and if one did, the letting go leaves what the rules say.
 -- Assumes nothing.
 use native.Mathlib.Omega.{arith}
 use Prim.Native.Nat.{_+_, _*_}
@@ -7,7 +7,7 @@ use lib.ListN.{length-set}
 use borrow.Author.Needs.{needs}
 use Rattle.rules.specs.Commands.{withStates, withLinks}
 use Rattle.editing.specs.Bin.{emptying, bin-edited}
-use Rattle.editing.specs.Started.{edited-tippings, edited-going, edited-done}
+use Rattle.editing.specs.Started.{edited-tippings, edited-going, edited-none, edited-done}
 use Rattle.binning.proofs.bin_draft.Statement.{statement}
 use Rattle.binning.proofs.bin_draft.Tie as tie
 
@@ -72,48 +72,68 @@ fall-four-requires c κs =
     let begun = emptied .before .before .before .before .before .before .before .before .before .before .before .before .before .before in
     edited-tippings (bin-edited (begun .pre) (emptied .empty-places .ensures))
 
-let-go-requires : tie.Need-let-go-requires
-unfolding withStates withLinks
-let-go-requires c κs =
-    let fell = c .before .before .before .before .before .before .before .before .before in
-    let emptied = fell .before .before .before .before .before .before .before .before .before in
-    let begun = emptied .before .before .before .before .before .before .before .before .before .before .before .before .before .before in
-    edited-going (bin-edited (begun .pre) (emptied .empty-places .ensures)) (fell .fall-four .ensures)
-
 same-length : tie.Need-same-length
-same-length c =
-    let freed = c .before .before .before .before .before .before .before .before .before .before in
-    let fell = freed .before .before .before .before .before .before .before .before .before .before in
-    freed .let-go .kept .1 .0 ∙ fell .fall-four .kept .1 .0 ∙ simp length-set
+same-length c = c .before .before .before .before .before .fall-four .kept .1 .0 ∙ simp length-set
 
 same-length-2 : tie.Need-same-length-2
-same-length-2 c =
-    let freed = c .before .before .before .before .before .before .before .before .before .before in
-    let fell = freed .before .before .before .before .before .before .before .before .before .before in
-    let emptied = fell .before .before .before .before .before .before .before .before .before in
-    freed .let-go .kept .1 .1 .0 ∙ emptied .empty-places .kept .1 .0
-
-same-length-3 : tie.Need-same-length-3
-same-length-3 c = c .before .before .before .before .before .before .before .before .before .before .let-go .kept .1 .1 .1 .0
+same-length-2 c = c .before .before .before .before .before .before .before .before .before .before .before .before .before .before .empty-places .kept .1 .0
 
 same-length-4 : tie.Need-same-length-4
-same-length-4 c =
-    let freed = c .before .before .before .before .before .before .before .before .before .before in
-    let fell = freed .before .before .before .before .before .before .before .before .before .before in
-    let emptied = fell .before .before .before .before .before .before .before .before .before in
-    freed .let-go .kept .1 .1 .1 .1 .0 ∙ emptied .empty-places .kept .1 .1 .1 .0
+same-length-4 c = c .before .before .before .before .before .before .before .before .before .before .before .before .before .before .empty-places .kept .1 .1 .1 .0
 
 same-length-5 : tie.Need-same-length-5
-same-length-5 c =
-    let freed = c .before .before .before .before .before .before .before .before .before .before in
-    let fell = freed .before .before .before .before .before .before .before .before .before .before in
-    freed .let-go .kept .1 .1 .1 .1 .1 .0 ∙ fell .fall-four .kept .1 .1 .1 .1 .0
+same-length-5 c = c .before .before .before .before .before .fall-four .kept .1 .1 .1 .1 .0
 
 returns : tie.Need-returns
 unfolding withStates withLinks
 returns c =
+    let fell = c .before .before .before .before .before in
+    let emptied = fell .before .before .before .before .before .before .before .before .before in
+    let begun = emptied .before .before .before .before .before .before .before .before .before .before .before .before .before .before in
+    edited-none (bin-edited (begun .pre) (emptied .empty-places .ensures)) (fell .fall-four .ensures) (c .if1 .taken) (fell .fall-four .kept .1 .1 .1 .1 .0)
+
+let-go-requires : tie.Need-let-go-requires
+unfolding withStates withLinks
+let-go-requires c κs =
+    let fell = c .before .before .before .before .before .before .before .before .before .before in
+    let emptied = fell .before .before .before .before .before .before .before .before .before in
+    let begun = emptied .before .before .before .before .before .before .before .before .before .before .before .before .before .before in
+    edited-going (bin-edited (begun .pre) (emptied .empty-places .ensures)) (fell .fall-four .ensures)
+
+same-length-6 : tie.Need-same-length-6
+same-length-6 c =
     let freed = c .before .before .before .before .before .before .before .before .before .before in
-    let fell = freed .before .before .before .before .before .before .before .before .before .before in
+    let fell = freed .before .before .before .before .before .before .before .before .before .before .before in
+    freed .let-go .kept .1 .0 ∙ fell .fall-four .kept .1 .0 ∙ simp length-set
+
+same-length-7 : tie.Need-same-length-7
+same-length-7 c =
+    let freed = c .before .before .before .before .before .before .before .before .before .before in
+    let fell = freed .before .before .before .before .before .before .before .before .before .before .before in
+    let emptied = fell .before .before .before .before .before .before .before .before .before in
+    freed .let-go .kept .1 .1 .0 ∙ emptied .empty-places .kept .1 .0
+
+same-length-8 : tie.Need-same-length-8
+same-length-8 c = c .before .before .before .before .before .before .before .before .before .before .let-go .kept .1 .1 .1 .0
+
+same-length-9 : tie.Need-same-length-9
+same-length-9 c =
+    let freed = c .before .before .before .before .before .before .before .before .before .before in
+    let fell = freed .before .before .before .before .before .before .before .before .before .before .before in
+    let emptied = fell .before .before .before .before .before .before .before .before .before in
+    freed .let-go .kept .1 .1 .1 .1 .0 ∙ emptied .empty-places .kept .1 .1 .1 .0
+
+same-length-10 : tie.Need-same-length-10
+same-length-10 c =
+    let freed = c .before .before .before .before .before .before .before .before .before .before in
+    let fell = freed .before .before .before .before .before .before .before .before .before .before .before in
+    freed .let-go .kept .1 .1 .1 .1 .1 .0 ∙ fell .fall-four .kept .1 .1 .1 .1 .0
+
+returns-2 : tie.Need-returns-2
+unfolding withStates withLinks
+returns-2 c =
+    let freed = c .before .before .before .before .before .before .before .before .before .before in
+    let fell = freed .before .before .before .before .before .before .before .before .before .before .before in
     let emptied = fell .before .before .before .before .before .before .before .before .before in
     let begun = emptied .before .before .before .before .before .before .before .before .before .before .before .before .before .before in
     edited-done (bin-edited (begun .pre) (emptied .empty-places .ensures)) (fell .fall-four .ensures) (fell .fall-four .kept .1 .1 .1 .1 .0)
@@ -142,10 +162,16 @@ bin-draft-spec =
     empty-places-requires
     slice-write-states
     fall-four-requires
-    let-go-requires
     same-length
     same-length-2
-    same-length-3
+    (λ c. search needs)
     same-length-4
     same-length-5
-    returns)
+    returns
+    let-go-requires
+    same-length-6
+    same-length-7
+    same-length-8
+    same-length-9
+    same-length-10
+    returns-2)

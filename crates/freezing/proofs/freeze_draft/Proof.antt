@@ -126,12 +126,7 @@ same-length-2 c =
     took .take-all .kept .1 .1 .1 .0 ∙ gathered .gather .kept .1 .1 .1 .0
 
 same-length-3 : tie.Need-same-length-3
-same-length-3 c =
-    let took = c .before .before .before .before .before .before .before .before .before .before in
-    let found = took .before .before .before .before .before .before .before .before in
-    let gathered = found .before .before .before .before .before .before .before in
-    let start = gathered .before .before .before .before .before .before .before .before .before .before .before in
-    length-set (start .args .holds .now) (start .args .p) 1
+same-length-3 c = simp length-set
 
 same-length-4 : tie.Need-same-length-4
 same-length-4 c = search needs

@@ -1,8 +1,7 @@
 -- `freezing::unmark` meets its contract. The loop's invariant: what stands in the queue before j is unmarked. Assumes nothing.
-use Prim.Native.Nat.{_+_, _-_, _*_, _≤_}
+use Prim.Native.Nat.{_-_, _≤_}
 use native.Mathlib.Omega.{arith}
 use lib.ListN.{length-set}
-use Rattle.rules.specs.Lists.{_!_}
 use Rattle.freezing.specs.Unmarked.{Unmarked, unmarked-none, unmarked-to, unmarking-below, unmarked-more}
 use Rattle.freezing.proofs.unmark.Statement.{statement}
 use Rattle.freezing.proofs.unmark.Tie as tie
@@ -91,9 +90,7 @@ slice-write-work-2 c =
     let given = c .before .before .before .pre in
     let inv = c .before .before .loop .inv in
     let more = c .before .loop-test .taken in
-    let w = c .before .before .loop .work in
-    let at = w ! (6 * c .before .before .before .args .n + c .before .before .loop .j) in
-    omega (arith, unmarking-below given (inv .0) more, inv .0 .size, given .work-n, length-set w at 0)
+    simp length-set (omega (arith, unmarking-below given (inv .0) more, inv .0 .size, given .work-n))
 
 loop-less : tie.Need-loop-less Inv-loop μ-loop
 loop-less c =

@@ -5,9 +5,6 @@ use Rattle.giving.proofs.Laws.{full-did, new-did}
 use Rattle.giving.proofs.new.Statement.{statement}
 use Rattle.giving.proofs.new.Tie as tie
 
-none-free-requires : tie.Need-none-free-requires
-none-free-requires c κs = search needs
-
 lowest-free-requires : tie.Need-lowest-free-requires
 lowest-free-requires c κs = search needs
 
@@ -35,7 +32,6 @@ pub new-spec : {M : Type 1} → statement M
 new-spec =
     tie.close
     (tie.spec
-    none-free-requires
     lowest-free-requires
     same-length
     returns

@@ -3,13 +3,11 @@
 use native.Mathlib.Omega.{arith}
 use borrow.Author.Needs.{needs}
 use Rattle.rules.specs.Calls.{refusedBy}
-use Rattle.laws.specs.Calls.{ready-tables}
-use Rattle.laws.specs.Seated.{acquire-adds, acquire-itself, any-acquire, refused-seat, refused-tables}
+use Rattle.laws.specs.Seated.{acquire-adds, acquire-itself, refused-seat, refused-tables}
 use Rattle.naming.specs.Told.{piece-wrong, piece-named}
 use Rattle.naming.specs.Names.{wrong-did}
 use Rattle.editing.specs.Names.{acquire-names, state-refused}
-use Rattle.editing.specs.Holds.{acquire-limit}
-use Rattle.holding.specs.Acquired.{few-held, room-told, crowded, acquired-did}
+use Rattle.holding.specs.Acquired.{one-more, few-held, room-told, limited, crowded, acquired-did}
 use Rattle.holding.proofs.acquire.Statement.{statement}
 use Rattle.holding.proofs.acquire.Tie as tie
 
@@ -57,10 +55,7 @@ returns-4 c =
     let asked : tie.After-piece = search in
     let right : tie.After-enum-told = search in
     let frozen : tie.Else2 = search in
-    record {
-      did = λ ready. refused-tables (acquire-adds .seat) acquire-itself (seated .if1 .left)
-          (any-acquire (acquire-limit (ready-tables ready) (piece-named (asked .piece .ensures) (right .enum-told .given .1)) (frozen .if2 .left) (c .if3 .taken)));
-    }
+    record { did = λ ready. limited ready (seated .if1 .left) (piece-named (asked .piece .ensures) (right .enum-told .given .1)) (frozen .if2 .left) (c .if3 .taken) }
 
 find-requires : tie.Need-find-requires
 find-requires c κs = let lent : tie.Start = search in lent .pre .right .ordered
@@ -90,18 +85,7 @@ add-hold-requires c κs =
     let right = frozen .before .before in
     let asked = right .before .before in
     let lent = asked .before .before .before .before .before .before .before in
-    let named = piece-named (asked .piece .ensures) (right .enum-told .given .1) in
-    let led = lent .pre .led (lent .args .p) named (frozen .if2 .left) in
-    record {
-      small = lent .pre .small;
-      below = named .below;
-      leaders-n = lent .pre .leaders-n;
-      holds-n = lent .pre .holds-n;
-      counts-n = lent .pre .counts-n;
-      few = few .if3 .left;
-      led = led .0;
-      fits = led .1;
-    }
+    one-more (lent .pre) (piece-named (asked .piece .ensures) (right .enum-told .given .1)) (frozen .if2 .left) (few .if3 .left)
 
 more-requires : tie.Need-more-requires
 more-requires c κs =

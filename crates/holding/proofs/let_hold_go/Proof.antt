@@ -1,4 +1,4 @@
--- `holding::let_hold_go` meets its contract. One hold and one count less match again; at most p's group fell, and the letting go leaves what the rules say.
+-- `holding::let_hold_go` meets its contract. One hold and one count less match again; at most p's group fell, and if it did, the letting go leaves what the rules say.
 -- Assumes nothing.
 use native.Mathlib.Omega.{arith}
 use mathlib.Core.Path.{_∙_}
@@ -6,7 +6,7 @@ use lib.ListN.{length-set}
 use borrow.Author.Needs.{needs}
 use Rattle.rules.specs.Commands.{withHolds}
 use Rattle.editing.specs.Holds.{released-in, release-edited}
-use Rattle.editing.specs.Started.{tippings-first, tumbled-one, edited-tippings, edited-going, edited-done}
+use Rattle.editing.specs.Started.{tippings-first, tumbled-one, edited-tippings, edited-going, edited-none, edited-done}
 use Rattle.holding.proofs.let_hold_go.Statement.{statement}
 use Rattle.holding.proofs.let_hold_go.Tie as tie
 
@@ -55,42 +55,55 @@ fall-requires c κs =
     let begun = c .before .before .before .before .before .before .before .before .before .before .before .before .before in
     tippings-first (edited-tippings (release-edited (begun .pre)))
 
-let-go-requires : tie.Need-let-go-requires
-unfolding withHolds
-let-go-requires c κs =
-    let fell = c .before .before .before .before .before .before .before .before .before in
-    let begun = fell .before .before .before .before .before .before .before .before .before .before .before .before .before .before in
-    edited-going (release-edited (begun .pre)) (tumbled-one (fell .fall .ensures))
-
 same-length : tie.Need-same-length
-same-length c =
-    let freed = c .before .before .before .before .before .before .before .before .before .before in
-    let fell = freed .before .before .before .before .before .before .before .before .before .before in
-    freed .let-go .kept .1 .0 ∙ fell .fall .kept .1 .0
-
-same-length-2 : tie.Need-same-length-2
-same-length-2 c = c .before .before .before .before .before .before .before .before .before .before .let-go .kept .1 .1 .0
-
-same-length-3 : tie.Need-same-length-3
-same-length-3 c = c .before .before .before .before .before .before .before .before .before .before .let-go .kept .1 .1 .1 .0
-
-same-length-4 : tie.Need-same-length-4
-same-length-4 c = search needs
+same-length c = c .before .before .before .before .before .fall .kept .1 .0
 
 same-length-5 : tie.Need-same-length-5
-same-length-5 c = c .before .before .before .before .before .before .before .before .before .before .let-go .kept .1 .1 .1 .1 .0 ∙ simp length-set
-
-same-length-6 : tie.Need-same-length-6
-same-length-6 c =
-    let freed = c .before .before .before .before .before .before .before .before .before .before in
-    let fell = freed .before .before .before .before .before .before .before .before .before .before in
-    freed .let-go .kept .1 .1 .1 .1 .1 .0 ∙ fell .fall .kept .1 .1 .1 .1 .0
+same-length-5 c = c .before .before .before .before .before .fall .kept .1 .1 .1 .1 .0
 
 returns : tie.Need-returns
 unfolding withHolds
 returns c =
+    let fell = c .before .before .before .before .before in
+    let begun = fell .before .before .before .before .before .before .before .before .before .before .before .before .before .before in
+    edited-none (release-edited (begun .pre)) (tumbled-one (fell .fall .ensures)) (c .if1 .taken) (fell .fall .kept .1 .1 .1 .1 .0)
+
+let-go-requires : tie.Need-let-go-requires
+unfolding withHolds
+let-go-requires c κs =
+    let fell = c .before .before .before .before .before .before .before .before .before .before in
+    let begun = fell .before .before .before .before .before .before .before .before .before .before .before .before .before .before in
+    edited-going (release-edited (begun .pre)) (tumbled-one (fell .fall .ensures))
+
+same-length-6 : tie.Need-same-length-6
+same-length-6 c =
     let freed = c .before .before .before .before .before .before .before .before .before .before in
-    let fell = freed .before .before .before .before .before .before .before .before .before .before in
+    let fell = freed .before .before .before .before .before .before .before .before .before .before .before in
+    freed .let-go .kept .1 .0 ∙ fell .fall .kept .1 .0
+
+same-length-7 : tie.Need-same-length-7
+same-length-7 c = c .before .before .before .before .before .before .before .before .before .before .let-go .kept .1 .1 .0
+
+same-length-8 : tie.Need-same-length-8
+same-length-8 c = c .before .before .before .before .before .before .before .before .before .before .let-go .kept .1 .1 .1 .0
+
+same-length-9 : tie.Need-same-length-9
+same-length-9 c = search needs
+
+same-length-10 : tie.Need-same-length-10
+same-length-10 c = c .before .before .before .before .before .before .before .before .before .before .let-go .kept .1 .1 .1 .1 .0 ∙ simp length-set
+
+same-length-11 : tie.Need-same-length-11
+same-length-11 c =
+    let freed = c .before .before .before .before .before .before .before .before .before .before in
+    let fell = freed .before .before .before .before .before .before .before .before .before .before .before in
+    freed .let-go .kept .1 .1 .1 .1 .1 .0 ∙ fell .fall .kept .1 .1 .1 .1 .0
+
+returns-2 : tie.Need-returns-2
+unfolding withHolds
+returns-2 c =
+    let freed = c .before .before .before .before .before .before .before .before .before .before in
+    let fell = freed .before .before .before .before .before .before .before .before .before .before .before in
     let begun = fell .before .before .before .before .before .before .before .before .before .before .before .before .before .before in
     edited-done (release-edited (begun .pre)) (tumbled-one (fell .fall .ensures)) (fell .fall .kept .1 .1 .1 .1 .0) (freed .let-go .ensures)
 
@@ -112,11 +125,17 @@ let-hold-go-spec =
     mul-counts-2
     slice-write-counts
     fall-requires
-    let-go-requires
     same-length
-    same-length-2
-    same-length-3
-    same-length-4
+    (λ c. search needs)
+    (λ c. search needs)
+    (λ c. search needs)
     same-length-5
+    returns
+    let-go-requires
     same-length-6
-    returns)
+    same-length-7
+    same-length-8
+    same-length-9
+    same-length-10
+    same-length-11
+    returns-2)

@@ -5,15 +5,15 @@ use mathlib.Core.Bool.{false}
 use mathlib.Core.Logic.{⊎-elim}
 use native.Mathlib.Omega.{arith}
 use denote.Ref.{now}
-use Rattle.reader.specs.Lines.{block, NoEnd, block-more}
+use Rattle.reader.specs.Lines.{NoEnd, block-more}
 use Rattle.reader.proofs.ends.Statement.{statement}
 use Rattle.reader.proofs.ends.Tie as tie
 
 abbrev Inv-loop : tie.InvT-loop
-Inv-loop text at found₀ i₀ found i = (i ≤ block) × (found ≡ false → NoEnd text at (at + i))
+Inv-loop text at size found₀ i₀ found i = (i ≤ size) × (found ≡ false → NoEnd text at (at + i))
 
 abbrev μ-loop : tie.MeasureT-loop
-μ-loop text at found₀ i₀ found i = block - i
+μ-loop text at size found₀ i₀ found i = size - i
 
 loop-holds : tie.Need-loop-holds Inv-loop μ-loop
 loop-holds c = (omega arith, λ _ j a b e. omega arith)

@@ -14,10 +14,10 @@ abbrev μ-loop : tie.MeasureT-loop
 μ-loop text at i₀ k₀ i k = 16 - k
 
 abbrev Inv-loop2 : tie.InvT-loop2
-Inv-loop2 text at i k j₀ j = (at ≤ j) × (j < length text) × NoEnd text at j
+Inv-loop2 text at i k far near j₀ j = (at ≤ j) × (j < length text) × NoEnd text at j
 
 abbrev μ-loop2 : tie.MeasureT-loop2
-μ-loop2 text at i k j₀ j = length text - j
+μ-loop2 text at i k far near j₀ j = length text - j
 
 loop-holds : tie.Need-loop-holds Inv-loop μ-loop Inv-loop2 μ-loop2
 loop-holds c = (omega arith, c .before .pre .0, no-end-none (now (c .before .args .text)) (c .before .args .at))
@@ -49,14 +49,24 @@ loop-again c =
     )
 
 pass-requires : tie.Need-pass-requires Inv-loop μ-loop Inv-loop2 μ-loop2
-pass-requires c κs = (c .before .loop .inv .1, c .before .before .before .pre .1)
+pass-requires c κs = (c .before .loop .inv .1, omega arith, c .before .before .before .pre .1)
+
+pass-requires-2 : tie.Need-pass-requires-2 Inv-loop μ-loop Inv-loop2 μ-loop2
+pass-requires-2 c κs = (c .pass .ensures .1, omega arith, c .before .before .before .before .pre .1)
+
+pass-requires-3 : tie.Need-pass-requires-3 Inv-loop μ-loop Inv-loop2 μ-loop2
+pass-requires-3 c κs = (c .pass2 .ensures .1, omega arith, c .before .before .before .before .before .pre .1)
 
 loop2-holds : tie.Need-loop2-holds Inv-loop μ-loop Inv-loop2 μ-loop2
 loop2-holds c =
-    let lent = c .before .before .before .before in
-    let turn = c .before .before .loop in
-    let passed = c .pass .ensures in
-    (omega arith, passed .1, no-end-join (now (lent .args .text)) (lent .args .at) (turn .i) _ (turn .inv .2) (passed .2))
+    let lent = c .before .before .before .before .before .before in
+    let turn = c .before .before .before .before .loop in
+    let text = now (lent .args .text) in
+    let far = c .before .before .pass .ensures in
+    let near = c .before .pass2 .ensures in
+    let last = c .pass3 .ensures in
+    let passed = no-end-join text (turn .i) _ _ (far .2) (no-end-join text _ _ _ (near .2) (last .2)) in
+    (omega (arith, turn .inv .0, far .0, near .0, last .0), last .1, no-end-join text (lent .args .at) (turn .i) _ (turn .inv .2) passed)
 
 shared-slice-read-if2 : tie.Need-shared-slice-read-if2 Inv-loop μ-loop Inv-loop2 μ-loop2
 shared-slice-read-if2 c = c .before .loop2 .inv .1
@@ -69,7 +79,7 @@ loop2-less c = omega arith
 
 loop2-again : tie.Need-loop2-again Inv-loop μ-loop Inv-loop2 μ-loop2
 loop2-again c =
-    let lent = c .before .before .before .before .before .before .before in
+    let lent = c .before .before .before .before .before .before .before .before .before in
     let turn = c .before .before .loop2 in (
       omega arith,
       lent .pre .1 (turn .j) (turn .inv .1) (c .if2 .taken),
@@ -97,6 +107,8 @@ line-end-spec =
     loop-less
     loop-again
     pass-requires
+    pass-requires-2
+    pass-requires-3
     loop2-holds
     shared-slice-read-if2
     add-j

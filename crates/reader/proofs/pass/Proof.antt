@@ -8,10 +8,10 @@ use Rattle.reader.proofs.pass.Statement.{statement}
 use Rattle.reader.proofs.pass.Tie as tie
 
 abbrev Inv-loop : tie.InvT-loop
-Inv-loop text at i₀ i = (at ≤ i) × (i < length text) × NoEnd text at i
+Inv-loop text at size i₀ i = (at ≤ i) × (i < length text) × NoEnd text at i
 
 abbrev μ-loop : tie.MeasureT-loop
-μ-loop text at i₀ i = length text - i
+μ-loop text at size i₀ i = length text - i
 
 loop-holds : tie.Need-loop-holds Inv-loop μ-loop
 loop-holds c = (omega arith, c .before .pre .0, no-end-none (now (c .before .args .text)) (c .before .args .at))
@@ -37,7 +37,7 @@ loop-again c =
     let turn = c .before .before .before .loop in
     let text = now (lent .args .text) in
     let none = c .before .ends .ensures (c .if1 .left) in
-    (omega arith, block-inside text (turn .i) (lent .pre .1) (omega arith) none, no-end-join text (lent .args .at) (turn .i) _ (turn .inv .2) none)
+    (omega arith, block-inside text (turn .i) (lent .args .size) (lent .pre .2) (lent .pre .1) (omega arith) none, no-end-join text (lent .args .at) (turn .i) _ (turn .inv .2) none)
 
 returns-2 : tie.Need-returns-2 Inv-loop μ-loop
 returns-2 c = c .before .loop .inv

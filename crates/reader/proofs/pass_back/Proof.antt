@@ -3,18 +3,18 @@ use Prim.Native.Nat.{_≤_}
 use native.Mathlib.Omega.{arith}
 use denote.Ref.{now}
 use lib.ListN.{length}
-use Rattle.reader.specs.Lines.{NoEnd, no-end-none, no-end-back-block}
+use Rattle.reader.specs.Lines.{NoEnd, no-end-back-block}
 use Rattle.reader.proofs.pass_back.Statement.{statement}
 use Rattle.reader.proofs.pass_back.Tie as tie
 
 abbrev Inv-loop : tie.InvT-loop
-Inv-loop text r₀ r = (r ≤ length text) × NoEnd text r (length text)
+Inv-loop text from size r₀ r = (r ≤ length text) × NoEnd text r (length text)
 
 abbrev μ-loop : tie.MeasureT-loop
-μ-loop text r₀ r = r
+μ-loop text from size r₀ r = r
 
 loop-holds : tie.Need-loop-holds Inv-loop μ-loop
-loop-holds c = (omega arith, no-end-none (now (c .before .args .text)) (length (now (c .before .args .text))))
+loop-holds c = (c .before .pre .0, c .before .pre .2)
 
 ends-requires : tie.Need-ends-requires Inv-loop μ-loop
 ends-requires c κs = omega arith
@@ -27,9 +27,9 @@ loop-less c = omega arith
 
 loop-again : tie.Need-loop-again Inv-loop μ-loop
 loop-again c =
-    let text = now (c .before .before .before .before .before .args .text) in
+    let lent = c .before .before .before .before .before in
     let turn = c .before .before .before .loop in
-    (omega arith, no-end-back-block text (turn .r) (omega arith) (c .before .ends .ensures (c .if1 .left)) (turn .inv .1))
+    (omega arith, no-end-back-block (now (lent .args .text)) (turn .r) (lent .args .size) (omega arith) (c .before .ends .ensures (c .if1 .left)) (turn .inv .1))
 
 returns-2 : tie.Need-returns-2 Inv-loop μ-loop
 returns-2 c = c .before .loop .inv

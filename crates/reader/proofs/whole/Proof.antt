@@ -1,23 +1,27 @@
 -- `reader::whole` goes back to the last byte 10. Assumes nothing.
 use Prim.Native.Nat.{_≤_}
 use native.Mathlib.Omega.{arith}
+use native.Mathlib.Nat.{le-refl}
 use denote.Ref.{now}
 use lib.ListN.{length}
-use Rattle.reader.specs.Lines.{NoEnd, no-end-back, whole-at, whole-none}
+use Rattle.reader.specs.Lines.{NoEnd, no-end-none, no-end-back, whole-at, whole-none}
 use Rattle.reader.proofs.whole.Statement.{statement}
 use Rattle.reader.proofs.whole.Tie as tie
 
 abbrev Inv-loop : tie.InvT-loop
-Inv-loop text r₀ r = (r ≤ length text) × NoEnd text r (length text)
+Inv-loop text far r₀ r = (r ≤ length text) × NoEnd text r (length text)
 
 abbrev μ-loop : tie.MeasureT-loop
-μ-loop text r₀ r = r
+μ-loop text far r₀ r = r
 
 pass-back-requires : tie.Need-pass-back-requires Inv-loop μ-loop
-pass-back-requires c κs = tt
+pass-back-requires c κs = let text = now (c .before .args .text) in (le-refl (length text), omega arith, no-end-none text (length text))
+
+pass-back-requires-2 : tie.Need-pass-back-requires-2 Inv-loop μ-loop
+pass-back-requires-2 c κs = (c .pass-back .ensures .0, omega arith, c .pass-back .ensures .1)
 
 loop-holds : tie.Need-loop-holds Inv-loop μ-loop
-loop-holds c = c .pass-back .ensures
+loop-holds c = c .pass-back2 .ensures
 
 sub-if1 : tie.Need-sub-if1 Inv-loop μ-loop
 sub-if1 c = omega arith
@@ -38,7 +42,7 @@ loop-less c = omega arith
 
 loop-again : tie.Need-loop-again Inv-loop μ-loop
 loop-again c =
-    let text = now (c .before .before .before .before .before .before .args .text) in
+    let text = now (c .before .before .before .before .before .before .before .args .text) in
     let turn = c .before .before .before .loop in
     (omega arith, no-end-back text (turn .r) (omega arith) (c .if1 .left) (turn .inv .1))
 
@@ -52,6 +56,7 @@ whole-spec =
     Inv-loop
     μ-loop
     pass-back-requires
+    pass-back-requires-2
     loop-holds
     sub-if1
     shared-slice-read-if1

@@ -1,87 +1,76 @@
--- `register::find` meets its contract: the lines below the window are before the pair, and those behind it are not. Assumes nothing.
-use Rattle.register.specs.Windows.{Window, window-start, window-up, window-stay, window-next, window-here}
-use mathlib.Core.Path.{_≡_}
+-- `register::find` meets its contract: all used lines are among those that are looked at. Assumes nothing.
+use Rattle.register.specs.Windows.{among-here, among-all}
 use native.Mathlib.Omega.{arith}
-use borrow.Author.Needs.{needs}
-use Rattle.rules.specs.Register.{order}
 use Rattle.register.proofs.find.Statement.{statement}
 use Rattle.register.proofs.find.Tie as tie
 
-abbrev Inv-loop : tie.InvT-loop
-Inv-loop register seatAt pieceAt pair base₀ size₀ base size = (pair ≡ order seatAt pieceAt) × Window register seatAt pieceAt base size
+shared-slice-read-if1 : tie.Need-shared-slice-read-if1
+shared-slice-read-if1 c = omega (arith, c .before .before .pre .size)
 
-abbrev μ-loop : tie.MeasureT-loop
-μ-loop register seatAt pieceAt pair base₀ size₀ base size = size
+find-among-requires : tie.Need-find-among-requires
+find-among-requires c κs =
+    let given = c .before .before .before .pre in
+    (given, among-here given 2 (omega arith) (omega arith) (c .if1 .taken))
 
-order-of-requires : tie.Need-order-of-requires Inv-loop μ-loop
-order-of-requires c κs = search needs
+returns : tie.Need-returns
+returns c = c .find-among .ensures
 
-loop-holds : tie.Need-loop-holds Inv-loop μ-loop
-loop-holds c = (c .order-of .ensures, window-start (c .before .before .pre))
+shared-slice-read-if2 : tie.Need-shared-slice-read-if2
+shared-slice-read-if2 c = omega (arith, c .before .before .before .before .pre .size)
 
-add-middle : tie.Need-add-middle Inv-loop μ-loop
-add-middle c = omega (arith, c .before .loop .inv .1 .most)
+find-among-requires-2 : tie.Need-find-among-requires-2
+find-among-requires-2 c κs =
+    let given = c .before .before .before .before .before .pre in
+    (given, among-here given 8 (omega arith) (omega arith) (c .if2 .taken))
 
-sub-size : tie.Need-sub-size Inv-loop μ-loop
-sub-size c = omega arith
+returns-2 : tie.Need-returns-2
+returns-2 c = c .find-among2 .ensures
 
-is-up-to-requires : tie.Need-is-up-to-requires Inv-loop μ-loop
-is-up-to-requires c κs = (c .before .before .before .before .pre, omega arith, omega (arith, c .before .loop .inv .1 .most))
+shared-slice-read-if3 : tie.Need-shared-slice-read-if3
+shared-slice-read-if3 c = omega (arith, c .before .before .before .before .before .before .pre .size)
 
-loop-less : tie.Need-loop-less Inv-loop μ-loop
-loop-less c = omega arith
+find-among-requires-3 : tie.Need-find-among-requires-3
+find-among-requires-3 c κs =
+    let given = c .before .before .before .before .before .before .before .pre in
+    (given, among-here given 32 (omega arith) (omega arith) (c .if3 .taken))
 
-loop-again : tie.Need-loop-again Inv-loop μ-loop
-loop-again c =
-    let told = c .before .is-up-to in
-    let loop = c .before .before .before .loop in
-    (loop .inv .0, window-up (c .before .before .before .before .before .before .pre) (loop .inv .1) (told .result) (told .ensures) (loop .inv .0) (omega arith) (omega arith) (c .if1 .taken))
+returns-3 : tie.Need-returns-3
+returns-3 c = c .find-among3 .ensures
 
-loop-less-2 : tie.Need-loop-less-2 Inv-loop μ-loop
-loop-less-2 c = omega arith
+shared-slice-read-if4 : tie.Need-shared-slice-read-if4
+shared-slice-read-if4 c = omega (arith, c .before .before .before .before .before .before .before .before .pre .size)
 
-loop-again-2 : tie.Need-loop-again-2 Inv-loop μ-loop
-loop-again-2 c =
-    let told = c .before .is-up-to in
-    let loop = c .before .before .before .loop in
-    (loop .inv .0, window-stay (c .before .before .before .before .before .before .pre) (loop .inv .1) (told .result) (told .ensures) (loop .inv .0) (omega arith) (omega arith) (c .if1 .left))
+find-among-requires-4 : tie.Need-find-among-requires-4
+find-among-requires-4 c κs =
+    let given = c .before .before .before .before .before .before .before .before .before .pre in
+    (given, among-here given 128 (omega arith) (omega arith) (c .if4 .taken))
 
-is-before-requires : tie.Need-is-before-requires Inv-loop μ-loop
-is-before-requires c κs =
-    let inside = c .before .loop .inv .1 in
-    (c .before .before .before .before .pre .size, omega (arith, inside .most, inside .some))
+returns-4 : tie.Need-returns-4
+returns-4 c = c .find-among4 .ensures
 
-add-result : tie.Need-add-result Inv-loop μ-loop
-add-result c = omega (arith, c .before .before .before .loop .inv .1 .most)
+find-among-requires-5 : tie.Need-find-among-requires-5
+find-among-requires-5 c κs =
+    let given = c .before .before .before .before .before .before .before .before .before .pre in
+    (given, among-all given)
 
-returns : tie.Need-returns Inv-loop μ-loop
-returns c =
-    let told = c .before .is-before in
-    let inv = c .before .before .before .loop .inv in
-    window-next (c .before .before .before .before .before .before .pre) (inv .1) (c .before .before .loop-test .left) (told .result) (told .ensures) (inv .0) (c .if2 .taken)
-
-returns-2 : tie.Need-returns-2 Inv-loop μ-loop
-returns-2 c =
-    let told = c .before .is-before in
-    let inv = c .before .before .before .loop .inv in
-    window-here (c .before .before .before .before .before .before .pre) (inv .1) (c .before .before .loop-test .left) (told .result) (told .ensures) (inv .0) (c .if2 .left)
+returns-5 : tie.Need-returns-5
+returns-5 c = c .find-among5 .ensures
 
 pub find-spec : {M : Type 1} → statement M
 find-spec =
     tie.close
     (tie.spec
-    Inv-loop
-    μ-loop
-    order-of-requires
-    loop-holds
-    add-middle
-    sub-size
-    is-up-to-requires
-    loop-less
-    loop-again
-    loop-less-2
-    loop-again-2
-    is-before-requires
-    add-result
+    shared-slice-read-if1
+    find-among-requires
     returns
-    returns-2)
+    shared-slice-read-if2
+    find-among-requires-2
+    returns-2
+    shared-slice-read-if3
+    find-among-requires-3
+    returns-3
+    shared-slice-read-if4
+    find-among-requires-4
+    returns-4
+    find-among-requires-5
+    returns-5)

@@ -1,7 +1,9 @@
--- `register::insert` meets its contract: the entries from j on stand three further. Assumes nothing.
-use Rattle.register.specs.Opened.{Opened, opened-start, opened-more, opened-end}
+-- `register::insert` meets its contract: the lines from i on stand one further, block by block. Assumes nothing.
+use Rattle.register.specs.Opened.{Opened, found-used, used-few, opened-block, opened-end}
 use Rattle.register.specs.Done.{insert-inside}
 use mathlib.Core.Path.{sym, _∙_}
+use mathlib.Core.List.{List}
+use Prim.Native.Nat.{ℕ, _+_, _*_}
 use native.Mathlib.Omega.{arith}
 use borrow.Author.Needs.{needs}
 use lib.ListN.{length-set}
@@ -9,95 +11,101 @@ use Rattle.register.proofs.insert.Statement.{statement}
 use Rattle.register.proofs.insert.Tie as tie
 
 abbrev Inv-loop : tie.InvT-loop
-Inv-loop register₀ i seatAt pieceAt from lines j₀ register j = Opened register₀ i j register
+Inv-loop register₀ i seatAt pieceAt from lines blocks₀ register blocks = (l : List ℕ) → Opened l i (3 * i + 96 * blocks₀) register₀ → Opened l i (3 * i + 96 * blocks) register
 
 abbrev μ-loop : tie.MeasureT-loop
-μ-loop register₀ i seatAt pieceAt from lines j₀ register j = j
+μ-loop register₀ i seatAt pieceAt from lines blocks₀ register blocks = blocks
 
 mul-from : tie.Need-mul-from Inv-loop μ-loop
-mul-from c = omega (arith, insert-inside (c .before .pre .0) (c .before .pre .1) (c .before .pre .2))
+mul-from c =
+    let given = c .before .pre in
+    omega (arith, insert-inside (given .0) (given .1) (given .2))
 
 used-requires : tie.Need-used-requires Inv-loop μ-loop
 used-requires c κs = c .before .before .pre .0
 
-mul-j : tie.Need-mul-j Inv-loop μ-loop
-mul-j c = omega (arith, c .used .ensures .most)
+open-last-requires : tie.Need-open-last-requires Inv-loop μ-loop
+open-last-requires c κs =
+    let given = c .before .before .before .before .pre in
+    let lines = c .before .used .ensures in
+    (given .0, lines, found-used (given .1) lines, used-few lines (given .2))
 
 loop-holds : tie.Need-loop-holds Inv-loop μ-loop
-loop-holds c =
-    let given = c .before .before .before .pre in
-    opened-start (given .0) (given .1) (given .2) (c .used .ensures)
+loop-holds c = λ l v. v
 
-sub-j : tie.Need-sub-j Inv-loop μ-loop
-sub-j c = omega arith
+sub-blocks : tie.Need-sub-blocks Inv-loop μ-loop
+sub-blocks c = omega arith
 
-mul-register : tie.Need-mul-register Inv-loop μ-loop
-mul-register c = search needs
+mul-lift : tie.Need-mul-lift Inv-loop μ-loop
+mul-lift c =
+    let most = c .before .before .loop .inv _ (c .before .before .before .before .before .open-last .ensures) .most in
+    omega (arith, most)
 
-slice-read-register : tie.Need-slice-read-register Inv-loop μ-loop
-slice-read-register c =
-    let loop = c .before .before .loop in
-    omega (arith, loop .inv .size, loop .inv .most)
+add-lift : tie.Need-add-lift Inv-loop μ-loop
+add-lift c =
+    let most = c .before .before .loop .inv _ (c .before .before .before .before .before .open-last .ensures) .most in
+    omega (arith, most)
 
-add-register : tie.Need-add-register Inv-loop μ-loop
-add-register c = omega (arith, c .before .before .loop .inv .most)
-
-mul-register-2 : tie.Need-mul-register-2 Inv-loop μ-loop
-mul-register-2 c = search needs
-
-slice-write-register : tie.Need-slice-write-register Inv-loop μ-loop
-slice-write-register c =
-    let loop = c .before .before .loop in
-    omega (arith, loop .inv .size, loop .inv .most)
+lift-requires : tie.Need-lift-requires Inv-loop μ-loop
+lift-requires c κs =
+    let inv = c .before .before .loop .inv _ (c .before .before .before .before .before .open-last .ensures) in
+    record { size = inv .size; most = omega (arith, inv .most, c .before .loop-test .taken) }
 
 loop-less : tie.Need-loop-less Inv-loop μ-loop
 loop-less c = omega arith
 
 loop-again : tie.Need-loop-again Inv-loop μ-loop
-loop-again c = opened-more (c .before .before .loop .inv) (c .before .loop-test .taken)
+loop-again c = λ l v. opened-block (c .before .before .before .before .before .loop .inv l v) (c .before .before .before .before .loop-test .taken) (c .before .before .lift .ensures)
+
+mul-register : tie.Need-mul-register Inv-loop μ-loop
+mul-register c = search needs
+
+slice-write-register : tie.Need-slice-write-register Inv-loop μ-loop
+slice-write-register c =
+    let given = c .before .before .before .before .before .before .before .before .before .pre in
+    let size = c .before .loop .inv _ (c .before .before .before .before .open-last .ensures) .size in
+    omega (arith, size, insert-inside (given .0) (given .1) (given .2))
+
+add-register : tie.Need-add-register Inv-loop μ-loop
+add-register c =
+    let given = c .before .before .before .before .before .before .before .before .before .pre in
+    omega (arith, insert-inside (given .0) (given .1) (given .2))
+
+mul-register-2 : tie.Need-mul-register-2 Inv-loop μ-loop
+mul-register-2 c = search needs
+
+slice-write-register-2 : tie.Need-slice-write-register-2 Inv-loop μ-loop
+slice-write-register-2 c =
+    let given = c .before .before .before .before .before .before .before .before .before .pre in
+    let size = c .before .loop .inv _ (c .before .before .before .before .open-last .ensures) .size in
+    simp length-set (omega (arith, size, insert-inside (given .0) (given .1) (given .2)))
+
+add-register-2 : tie.Need-add-register-2 Inv-loop μ-loop
+add-register-2 c =
+    let given = c .before .before .before .before .before .before .before .before .before .pre in
+    omega (arith, insert-inside (given .0) (given .1) (given .2))
 
 mul-register-3 : tie.Need-mul-register-3 Inv-loop μ-loop
 mul-register-3 c = search needs
 
-slice-write-register-2 : tie.Need-slice-write-register-2 Inv-loop μ-loop
-slice-write-register-2 c =
-    let given = c .before .before .before .before .before .pre in
-    omega (arith, c .before .loop .inv .size, insert-inside (given .0) (given .1) (given .2))
-
-add-register-2 : tie.Need-add-register-2 Inv-loop μ-loop
-add-register-2 c =
-    let given = c .before .before .before .before .before .pre in
-    omega (arith, insert-inside (given .0) (given .1) (given .2))
-
-mul-register-4 : tie.Need-mul-register-4 Inv-loop μ-loop
-mul-register-4 c = search needs
-
 slice-write-register-3 : tie.Need-slice-write-register-3 Inv-loop μ-loop
 slice-write-register-3 c =
-    let given = c .before .before .before .before .before .pre in
-    simp length-set (omega (arith, c .before .loop .inv .size, insert-inside (given .0) (given .1) (given .2)))
-
-add-register-3 : tie.Need-add-register-3 Inv-loop μ-loop
-add-register-3 c =
-    let given = c .before .before .before .before .before .pre in
-    omega (arith, insert-inside (given .0) (given .1) (given .2))
-
-mul-register-5 : tie.Need-mul-register-5 Inv-loop μ-loop
-mul-register-5 c = search needs
-
-slice-write-register-4 : tie.Need-slice-write-register-4 Inv-loop μ-loop
-slice-write-register-4 c =
-    let given = c .before .before .before .before .before .pre in
-    simp length-set (omega (arith, c .before .loop .inv .size, insert-inside (given .0) (given .1) (given .2)))
+    let given = c .before .before .before .before .before .before .before .before .before .pre in
+    let size = c .before .loop .inv _ (c .before .before .before .before .open-last .ensures) .size in
+    simp length-set (omega (arith, size, insert-inside (given .0) (given .1) (given .2)))
 
 same-length : tie.Need-same-length Inv-loop μ-loop
-same-length c = simp length-set (c .before .loop .inv .size ∙ sym (c .before .before .before .before .before .pre .0 .size))
+same-length c =
+    let lent = c .before .before .before .before .before .before .before .before .before in
+    let size = c .before .loop .inv _ (c .before .before .before .before .open-last .ensures) .size in
+    simp length-set (size ∙ sym (lent .pre .0 .size))
 
 returns : tie.Need-returns Inv-loop μ-loop
 returns c =
-    let a = c .before .before .before .before .before .args in
-    let given = c .before .before .before .before .before .pre in
-    opened-end (a .seat) (a .piece) (given .0 .size) (insert-inside (given .0) (given .1) (given .2)) (c .before .loop .inv) (c .loop-test .left)
+    let lent = c .before .before .before .before .before .before .before .before .before in
+    let given = lent .pre in
+    let inv = c .before .loop .inv _ (c .before .before .before .before .open-last .ensures) in
+    opened-end (lent .args .seat) (lent .args .piece) (given .0 .size) (insert-inside (given .0) (given .1) (given .2)) inv (omega (arith, c .loop-test .left))
 
 pub insert-spec : {M : Type 1} → statement M
 insert-spec =
@@ -107,23 +115,21 @@ insert-spec =
     μ-loop
     mul-from
     used-requires
-    mul-j
+    open-last-requires
     loop-holds
-    sub-j
-    mul-register
-    slice-read-register
-    add-register
-    mul-register-2
-    slice-write-register
+    sub-blocks
+    mul-lift
+    add-lift
+    lift-requires
     loop-less
     loop-again
-    mul-register-3
+    mul-register
+    slice-write-register
+    add-register
+    mul-register-2
     slice-write-register-2
     add-register-2
-    mul-register-4
+    mul-register-3
     slice-write-register-3
-    add-register-3
-    mul-register-5
-    slice-write-register-4
     same-length
     returns)

@@ -1,95 +1,106 @@
--- `register::remove` meets its contract: the entries from line i on to j are those three further on. Assumes nothing.
-use Rattle.register.specs.Closed.{Closed, below-used, closed-start, closed-more, closed-end}
+-- `register::remove` meets its contract: the lines from i on to m are those behind them, up to an unused one or the last. Assumes nothing.
+use Rattle.register.specs.Order.{used-below}
+use Rattle.register.specs.Moved.{sunk-at}
+use Rattle.register.specs.Closed.{Closed, closed-start, closed-more, closed-block, closed-unused, closed-end}
 use mathlib.Core.Path.{sym, _∙_}
-use Prim.Native.Nat.{_-_}
+use Prim.Native.Nat.{_+_, _-_, _*_, _<_}
 use native.Mathlib.Omega.{arith}
 use borrow.Author.Needs.{needs}
 use lib.ListN.{length-set}
+use Rattle.rules.specs.Limits.{lines}
 use Rattle.register.proofs.remove.Statement.{statement}
 use Rattle.register.proofs.remove.Tie as tie
 
 abbrev Inv-loop : tie.InvT-loop
-Inv-loop register₀ i lines last j₀ register j = Closed register₀ i last j register
+Inv-loop register₀ i m₀ register m = (m < lines) × Closed register₀ i (3 * m) register
 
 abbrev μ-loop : tie.MeasureT-loop
-μ-loop register₀ i lines last j₀ register j = last - j
-
-used-requires : tie.Need-used-requires Inv-loop μ-loop
-used-requires c κs = c .before .before .pre .0
-
-sub-last : tie.Need-sub-last Inv-loop μ-loop
-sub-last c =
-    let given = c .before .before .before .pre in
-    omega (arith, below-used (given .0) (given .1) (c .used .ensures))
-
-mul-last : tie.Need-mul-last Inv-loop μ-loop
-mul-last c = omega (arith, c .used .ensures .most)
-
-mul-j : tie.Need-mul-j Inv-loop μ-loop
-mul-j c =
-    let given = c .before .before .before .pre in
-    omega (arith, below-used (given .0) (given .1) (c .used .ensures), c .used .ensures .most)
+μ-loop register₀ i m₀ register m = lines - m
 
 loop-holds : tie.Need-loop-holds Inv-loop μ-loop
 loop-holds c =
-    let given = c .before .before .before .pre in
-    closed-start (given .0) (given .1) (c .used .ensures)
+    let given = c .before .pre in
+    (omega (arith, used-below _ (given .0) _ (given .1)), closed-start (given .0 .size))
 
-add-register : tie.Need-add-register Inv-loop μ-loop
-add-register c = omega (arith, c .before .before .used .ensures .most)
+add-loop : tie.Need-add-loop Inv-loop μ-loop
+add-loop c = omega (arith, c .loop .inv .0)
 
-mul-register : tie.Need-mul-register Inv-loop μ-loop
-mul-register c = search needs
+mul-sink : tie.Need-mul-sink Inv-loop μ-loop
+mul-sink c = omega (arith, c .before .before .loop .inv .0)
 
-slice-read-register : tie.Need-slice-read-register Inv-loop μ-loop
-slice-read-register c = omega (arith, c .before .before .loop .inv .size, c .before .before .before .used .ensures .most)
+sink-requires : tie.Need-sink-requires Inv-loop μ-loop
+sink-requires c κs = record { size = c .before .before .loop .inv .1 .size; most = omega (arith, c .before .loop-test .taken) }
 
-mul-register-2 : tie.Need-mul-register-2 Inv-loop μ-loop
-mul-register-2 c = search needs
+add-m : tie.Need-add-m Inv-loop μ-loop
+add-m c = omega (arith, c .before .before .before .before .loop-test .taken)
 
-slice-write-register : tie.Need-slice-write-register Inv-loop μ-loop
-slice-write-register c = omega (arith, c .before .before .loop .inv .size, c .before .before .before .used .ensures .most)
+mul-if1 : tie.Need-mul-if1 Inv-loop μ-loop
+mul-if1 c = omega (arith, c .before .before .before .before .loop-test .taken)
 
-add-j : tie.Need-add-j Inv-loop μ-loop
-add-j c = omega (arith, c .before .before .before .used .ensures .most)
+add-if1 : tie.Need-add-if1 Inv-loop μ-loop
+add-if1 c = omega (arith, c .before .before .before .before .loop-test .taken)
+
+mul-if1-2 : tie.Need-mul-if1-2 Inv-loop μ-loop
+mul-if1-2 c = search needs
+
+slice-read-if1 : tie.Need-slice-read-if1 Inv-loop μ-loop
+slice-read-if1 c =
+    let moved = c .before .before .before in
+    let inside = moved .before .before in
+    omega (arith, moved .sink .ensures .size, inside .before .loop .inv .1 .size, inside .loop-test .taken)
+
+same-length : tie.Need-same-length Inv-loop μ-loop
+same-length c =
+    let loop = c .before .before .before .before .before .before .before .loop in
+    c .before .before .before .before .sink .ensures .size ∙ loop .inv .1 .size ∙ sym (c .before .before .before .before .before .before .before .before .before .pre .0 .size)
+
+returns : tie.Need-returns Inv-loop μ-loop
+returns c =
+    let loop = c .before .before .before .before .before .before .before .loop in
+    let given = c .before .before .before .before .before .before .before .before .before .pre in
+    let moved = closed-block (loop .m) (loop .inv .1) (c .before .before .before .before .sink .ensures) in
+    closed-unused (loop .m + 32) (given .0) (used-below _ (given .0) _ (given .1)) (omega (arith, c .before .before .before .before .before .before .loop-test .taken)) moved (c .if1 .taken)
 
 loop-less : tie.Need-loop-less Inv-loop μ-loop
 loop-less c = omega arith
 
 loop-again : tie.Need-loop-again Inv-loop μ-loop
-loop-again c = closed-more (omega (arith, c .before .before .before .used .ensures .most)) (c .before .before .loop .inv) (c .before .loop-test .taken)
+loop-again c =
+    let loop = c .before .before .before .before .before .before .before .loop in
+    (omega (arith, c .before .before .before .before .before .before .loop-test .taken), closed-block (loop .m) (loop .inv .1) (c .before .before .before .before .sink .ensures))
 
-mul-register-3 : tie.Need-mul-register-3 Inv-loop μ-loop
-mul-register-3 c = search needs
+mul-sink-2 : tie.Need-mul-sink-2 Inv-loop μ-loop
+mul-sink-2 c = omega (arith, c .before .before .loop .inv .0)
+
+mul-sink-3 : tie.Need-mul-sink-3 Inv-loop μ-loop
+mul-sink-3 c = omega (arith, c .before .before .loop .inv .0)
+
+sub-sink : tie.Need-sub-sink Inv-loop μ-loop
+sub-sink c = omega (arith, c .before .before .loop .inv .0)
+
+sink-requires-2 : tie.Need-sink-requires-2 Inv-loop μ-loop
+sink-requires-2 c κs = record { size = c .before .before .loop .inv .1 .size; most = omega (arith, c .before .before .loop .inv .0) }
+
+slice-write-register : tie.Need-slice-write-register Inv-loop μ-loop
+slice-write-register c = omega (arith, c .before .before .sink2 .ensures .size, c .before .before .before .before .before .loop .inv .1 .size)
 
 slice-write-register-2 : tie.Need-slice-write-register-2 Inv-loop μ-loop
-slice-write-register-2 c = omega (arith, c .before .loop .inv .size, c .before .before .used .ensures .most)
-
-add-register-2 : tie.Need-add-register-2 Inv-loop μ-loop
-add-register-2 c = omega (arith, c .before .before .used .ensures .most)
-
-mul-register-4 : tie.Need-mul-register-4 Inv-loop μ-loop
-mul-register-4 c = search needs
+slice-write-register-2 c = simp length-set (omega (arith, c .before .before .sink2 .ensures .size, c .before .before .before .before .before .loop .inv .1 .size))
 
 slice-write-register-3 : tie.Need-slice-write-register-3 Inv-loop μ-loop
-slice-write-register-3 c = simp length-set (omega (arith, c .before .loop .inv .size, c .before .before .used .ensures .most))
+slice-write-register-3 c = simp length-set (omega (arith, c .before .before .sink2 .ensures .size, c .before .before .before .before .before .loop .inv .1 .size))
 
-add-register-3 : tie.Need-add-register-3 Inv-loop μ-loop
-add-register-3 c = omega (arith, c .before .before .used .ensures .most)
+same-length-2 : tie.Need-same-length-2 Inv-loop μ-loop
+same-length-2 c =
+    let moved = c .before .before in
+    simp length-set (moved .sink2 .ensures .size ∙ moved .before .before .before .loop .inv .1 .size ∙ sym (c .before .before .before .before .before .before .before .pre .0 .size))
 
-mul-register-5 : tie.Need-mul-register-5 Inv-loop μ-loop
-mul-register-5 c = search needs
-
-slice-write-register-4 : tie.Need-slice-write-register-4 Inv-loop μ-loop
-slice-write-register-4 c = simp length-set (omega (arith, c .before .loop .inv .size, c .before .before .used .ensures .most))
-
-same-length : tie.Need-same-length Inv-loop μ-loop
-same-length c = simp length-set (c .before .loop .inv .size ∙ sym (c .before .before .before .before .before .pre .0 .size))
-
-returns : tie.Need-returns Inv-loop μ-loop
-returns c =
-    let given = c .before .before .before .before .before .pre in
-    closed-end (given .0) (given .1) (c .before .before .used .ensures) (c .before .loop .inv) (c .loop-test .left)
+returns-2 : tie.Need-returns-2 Inv-loop μ-loop
+returns-2 c =
+    let loop = c .before .before .before .before .before .loop in
+    let given = c .before .before .before .before .before .before .before .pre in
+    let moved = closed-more (loop .inv .1) (omega (arith, loop .inv .0)) (sunk-at {to′ = 3069} (omega (arith, loop .inv .0)) (c .before .before .sink2 .ensures)) in
+    closed-end (given .0 .size) (used-below _ (given .0) _ (given .1)) moved
 
 pub remove-spec : {M : Type 1} → statement M
 remove-spec =
@@ -97,26 +108,25 @@ remove-spec =
     (tie.spec
     Inv-loop
     μ-loop
-    used-requires
-    sub-last
-    mul-last
-    mul-j
     loop-holds
-    add-register
-    mul-register
-    slice-read-register
-    mul-register-2
-    slice-write-register
-    add-j
+    add-loop
+    mul-sink
+    sink-requires
+    add-m
+    mul-if1
+    add-if1
+    mul-if1-2
+    slice-read-if1
+    same-length
+    returns
     loop-less
     loop-again
-    mul-register-3
+    mul-sink-2
+    mul-sink-3
+    sub-sink
+    sink-requires-2
+    slice-write-register
     slice-write-register-2
-    add-register-2
-    mul-register-4
     slice-write-register-3
-    add-register-3
-    mul-register-5
-    slice-write-register-4
-    same-length
-    returns)
+    same-length-2
+    returns-2)

@@ -1,93 +1,76 @@
--- `register::used` meets its contract: the lines below the window are used, and those behind it are not. Assumes nothing.
-use Rattle.register.specs.Windows.{Parted, parted-start, parted-up, parted-stay, parted-here, parted-next}
+-- `register::used` meets its contract: all used lines are among those that are looked at. Assumes nothing.
+use Rattle.register.specs.Windows.{among-here, among-all}
 use native.Mathlib.Omega.{arith}
-use borrow.Author.Needs.{needs}
 use Rattle.register.proofs.used.Statement.{statement}
 use Rattle.register.proofs.used.Tie as tie
 
-abbrev Inv-loop : tie.InvT-loop
-Inv-loop register base₀ size₀ base size = Parted register base size
+shared-slice-read-if1 : tie.Need-shared-slice-read-if1
+shared-slice-read-if1 c = omega (arith, c .before .before .pre .size)
 
-abbrev μ-loop : tie.MeasureT-loop
-μ-loop register base₀ size₀ base size = size
+used-among-requires : tie.Need-used-among-requires
+used-among-requires c κs =
+    let given = c .before .before .before .pre in
+    (given, among-here given 2 (omega arith) (omega arith) (c .if1 .taken))
 
-loop-holds : tie.Need-loop-holds Inv-loop μ-loop
-loop-holds c = parted-start (c .pre)
+returns : tie.Need-returns
+returns c = c .used-among .ensures
 
-add-middle : tie.Need-add-middle Inv-loop μ-loop
-add-middle c = omega (arith, c .before .loop .inv .most)
+shared-slice-read-if2 : tie.Need-shared-slice-read-if2
+shared-slice-read-if2 c = omega (arith, c .before .before .before .before .pre .size)
 
-sub-size : tie.Need-sub-size Inv-loop μ-loop
-sub-size c = omega arith
+used-among-requires-2 : tie.Need-used-among-requires-2
+used-among-requires-2 c κs =
+    let given = c .before .before .before .before .before .pre in
+    (given, among-here given 8 (omega arith) (omega arith) (c .if2 .taken))
 
-mul-if1 : tie.Need-mul-if1 Inv-loop μ-loop
-mul-if1 c = omega (arith, c .before .loop .inv .most)
+returns-2 : tie.Need-returns-2
+returns-2 c = c .used-among2 .ensures
 
-add-if1 : tie.Need-add-if1 Inv-loop μ-loop
-add-if1 c = omega (arith, c .before .loop .inv .most)
+shared-slice-read-if3 : tie.Need-shared-slice-read-if3
+shared-slice-read-if3 c = omega (arith, c .before .before .before .before .before .before .pre .size)
 
-mul-if1-2 : tie.Need-mul-if1-2 Inv-loop μ-loop
-mul-if1-2 c = search needs
+used-among-requires-3 : tie.Need-used-among-requires-3
+used-among-requires-3 c κs =
+    let given = c .before .before .before .before .before .before .before .pre in
+    (given, among-here given 32 (omega arith) (omega arith) (c .if3 .taken))
 
-shared-slice-read-if1 : tie.Need-shared-slice-read-if1 Inv-loop μ-loop
-shared-slice-read-if1 c = omega (arith, c .before .before .loop .inv .most, c .before .before .before .pre .size)
+returns-3 : tie.Need-returns-3
+returns-3 c = c .used-among3 .ensures
 
-loop-less : tie.Need-loop-less Inv-loop μ-loop
-loop-less c = omega arith
+shared-slice-read-if4 : tie.Need-shared-slice-read-if4
+shared-slice-read-if4 c = omega (arith, c .before .before .before .before .before .before .before .before .pre .size)
 
-loop-again : tie.Need-loop-again Inv-loop μ-loop
-loop-again c = parted-up (c .before .before .before .before .pre) (c .before .before .before .loop .inv) (omega arith) (omega arith) (c .if1 .taken)
+used-among-requires-4 : tie.Need-used-among-requires-4
+used-among-requires-4 c κs =
+    let given = c .before .before .before .before .before .before .before .before .before .pre in
+    (given, among-here given 128 (omega arith) (omega arith) (c .if4 .taken))
 
-loop-less-2 : tie.Need-loop-less-2 Inv-loop μ-loop
-loop-less-2 c = omega arith
+returns-4 : tie.Need-returns-4
+returns-4 c = c .used-among4 .ensures
 
-loop-again-2 : tie.Need-loop-again-2 Inv-loop μ-loop
-loop-again-2 c = parted-stay (c .before .before .before .before .pre) (c .before .before .before .loop .inv) (omega arith) (omega arith) (c .if1 .left)
+used-among-requires-5 : tie.Need-used-among-requires-5
+used-among-requires-5 c κs =
+    let given = c .before .before .before .before .before .before .before .before .before .pre in
+    (given, among-all given)
 
-mul-if2 : tie.Need-mul-if2 Inv-loop μ-loop
-mul-if2 c = omega (arith, c .before .loop .inv .most)
-
-add-if2 : tie.Need-add-if2 Inv-loop μ-loop
-add-if2 c = omega (arith, c .before .loop .inv .most)
-
-mul-if2-2 : tie.Need-mul-if2-2 Inv-loop μ-loop
-mul-if2-2 c = search needs
-
-shared-slice-read-if2 : tie.Need-shared-slice-read-if2 Inv-loop μ-loop
-shared-slice-read-if2 c =
-    let inv = c .before .before .loop .inv in
-    omega (arith, inv .most, inv .some, c .before .before .before .pre .size)
-
-returns : tie.Need-returns Inv-loop μ-loop
-returns c = parted-here (c .before .before .before .before .pre) (c .before .before .before .loop .inv) (c .before .before .loop-test .left) (c .if2 .taken)
-
-add-result : tie.Need-add-result Inv-loop μ-loop
-add-result c = omega (arith, c .before .before .before .loop .inv .most)
-
-returns-2 : tie.Need-returns-2 Inv-loop μ-loop
-returns-2 c = parted-next (c .before .before .before .before .pre) (c .before .before .before .loop .inv) (c .before .before .loop-test .left) (c .if2 .left)
+returns-5 : tie.Need-returns-5
+returns-5 c = c .used-among5 .ensures
 
 pub used-spec : {M : Type 1} → statement M
 used-spec =
     tie.close
     (tie.spec
-    Inv-loop
-    μ-loop
-    loop-holds
-    add-middle
-    sub-size
-    mul-if1
-    add-if1
-    mul-if1-2
     shared-slice-read-if1
-    loop-less
-    loop-again
-    loop-less-2
-    loop-again-2
-    mul-if2
-    add-if2
-    mul-if2-2
-    shared-slice-read-if2
+    used-among-requires
     returns
-    add-result
-    returns-2)
+    shared-slice-read-if2
+    used-among-requires-2
+    returns-2
+    shared-slice-read-if3
+    used-among-requires-3
+    returns-3
+    shared-slice-read-if4
+    used-among-requires-4
+    returns-4
+    used-among-requires-5
+    returns-5)

@@ -1,9 +1,9 @@
--- `put_none` writes the line of a number, `-` and 0, part after part. Assumes nothing.
+-- `put_plain` writes the line of a number, a value or `-`, and 0, part after part. Assumes nothing.
 use native.Mathlib.Omega.{arith}
 use borrow.Author.Needs.{needs}
-use Rattle.answers.specs.Writes.{then, refused-line}
-use Rattle.answers.proofs.put_none.Statement.{statement}
-use Rattle.answers.proofs.put_none.Tie as tie
+use Rattle.answers.specs.Writes.{then, plain-line}
+use Rattle.answers.proofs.put_plain.Statement.{statement}
+use Rattle.answers.proofs.put_plain.Tie as tie
 
 put-number-requires : tie.Need-put-number-requires
 put-number-requires c κs = search needs
@@ -30,13 +30,13 @@ returns c =
     let at3 : tie.After-put-value = search in
     let at2 : tie.After-put-byte = search in
     let at1 : tie.After-put-number = search in (
-      rw refused-line (then (at1 .put-number .ensures .0) (then (at2 .put-byte .ensures) (then (at3 .put-value .ensures .0)
+      rw plain-line (then (at1 .put-number .ensures .0) (then (at2 .put-byte .ensures) (then (at3 .put-value .ensures .0)
           (then (at4 .put-word .ensures .0) (done .put-byte2 .ensures))))),
       omega arith,
     )
 
-pub put-none-spec : {M : Type 1} → statement M
-put-none-spec =
+pub put-plain-spec : {M : Type 1} → statement M
+put-plain-spec =
     tie.close
     (tie.spec
     put-number-requires
