@@ -166,38 +166,41 @@ def driven(drive, what, rounds):
 
 
 def call_instructions(counting, drive):
-    """The instructions of each call, by shape, call and side; nothing where nothing counts."""
+    """The instructions of each call and its stores, by shape, call and side; nothing where nothing
+    counts."""
     if counting is None:
         return {}
     return marked(counting, drive) if emulated(drive) else collected(counting, drive)
 
 
 def marked(counting, drive):
-    """The instructions between two marks each, less those between marks about nothing."""
+    """The instructions between two marks each, less those between marks about nothing; the emulator
+    counts no stores."""
     done = run(counting + command(drive)[1:] + ["count"], env=NO_REP)
     names = [tuple(line.split("/")) for line in done.stdout.splitlines()]
     marks = [int(line.split()[1]) for line in done.stderr.splitlines() if line.startswith("mark: ")]
     between = [end - begin for begin, end in zip(marks[::2], marks[1::2])]
-    return {name: many - between[0] for name, many in zip(names[1:], between[1:])}
+    return {name: (many - between[0], None) for name, many in zip(names[1:], between[1:])}
 
 
 def collected(counting, drive):
-    """The instructions that callgrind has collected under each name."""
+    """The instructions and the stores that callgrind has collected under each name."""
     folder = os.path.join(OUT, "counts")
     os.makedirs(folder, exist_ok=True)
     for name in os.listdir(folder):
         os.remove(os.path.join(folder, name))
-    run(counting + ["-q", "--collect-atstart=no",
+    run(counting + ["-q", "--collect-atstart=no", "--cache-sim=yes",
                     "--callgrind-out-file=" + os.path.join(folder, "part"), drive, "count"],
         env=NO_REP)
     counted = {}
     for name in os.listdir(folder):
         with open(os.path.join(folder, name)) as part:
             words = dict(line.rstrip("\n").split(": ", 1) for line in part
-                         if line.startswith(("desc: Trigger", "totals: ")))
+                         if line.startswith(("desc: Trigger", "events: ", "totals: ")))
         asked = words.get("desc", "").partition("Client Request: ")[2]
         if asked:
-            counted[tuple(asked.split("/"))] = int(words["totals"])
+            by = dict(zip(words["events"].split(), map(int, words["totals"].split())))
+            counted[tuple(asked.split("/"))] = by["Ir"], by["Dw"]
     return counted
 
 

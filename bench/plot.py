@@ -2,7 +2,7 @@
 
 from xml.sax.saxutils import escape
 
-from report import CALL, LINE_INSTRUCTIONS, LINE_TIME, of
+from report import CALL_INSTRUCTIONS, CALL_TIME, LINE_INSTRUCTIONS, LINE_TIME, of
 
 ROW, LEFT, WIDTH, RIGHT = 17, 270, 420, 90
 
@@ -44,7 +44,7 @@ def drawn(profiles, ratios, name, emulated):
         panels.append(("Trace lines: the program to the C baseline, time", LINE_TIME,
                        [(p["name"], of(p, "times") or 0, []) for p in profiles]))
     panels.append((f"Public calls at N = 1,024: libpieces.a to C, {what}, the highest of the shapes "
-                   "(ticks: the others)", CALL, calls))
+                   "(ticks: the others)", CALL_INSTRUCTIONS if emulated else CALL_TIME, calls))
     most = min(4.0, max([2.0] + [entry[1] for _, _, entries in panels for entry in entries]) * 1.05)
     parts, top = [], 50
     for title, target, entries in panels:

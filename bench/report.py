@@ -1,7 +1,7 @@
 """The targets, and the tables of docs/SPEED.md as Markdown."""
 
 # The targets, as ratios to C: of the instructions and of the time of trace lines, and of calls.
-LINE_INSTRUCTIONS, LINE_TIME, CALL = 1.3, 1.5, 1.5
+LINE_INSTRUCTIONS, LINE_TIME, CALL_INSTRUCTIONS, CALL_TIME = 1.3, 1.5, 1.25, 1.5
 
 
 def table(head, rows):
@@ -34,21 +34,27 @@ def judged(profile, emulated):
     return verdict(of(profile, "instructions"), LINE_INSTRUCTIONS), verdict(by_time, LINE_TIME)
 
 
-def verdicts(profiles, ratios, emulated):
+def verdicts(profiles, ratios, counts, emulated):
     """In words how many profiles and calls meet each target, and which do not."""
     columns = list(zip(*(judged(profile, emulated) for profile in profiles)))
+    names = [profile["name"] for profile in profiles]
     for what, target, column in (("instructions", LINE_INSTRUCTIONS, columns[0]),
                                  ("time", LINE_TIME, columns[1])):
-        known = [(p["name"], one) for p, one in zip(profiles, column) if one != "-"]
-        missed = [name for name, one in known if one == "MISSED"]
-        if known:
-            yield (f"Trace lines, at most {target} times the C by {what}: "
-                   f"{len(known) - len(missed)} of {len(known)} profiles"
-                   + (f"; not: {'; '.join(missed)}." if missed else "."))
-    missed = [f"{call} ({shape})" for (shape, call), value in ratios.items() if value > CALL]
-    if ratios:
-        yield (f"Public calls, at most {CALL} times the C by {'instructions' if emulated else 'time'}: "
-               f"{len(ratios) - len(missed)} of {len(ratios)}"
+        yield from met("Trace lines", "profiles", what, target, zip(names, column))
+    for what, target, values in (("instructions", CALL_INSTRUCTIONS, counts),
+                                 ("time", CALL_TIME, {} if emulated else ratios)):
+        judgements = ((f"{call} ({shape})", verdict(value, target))
+                      for (shape, call), value in values.items())
+        yield from met("Public calls", "calls", what, target, judgements)
+
+
+def met(lines, many, what, target, judgements):
+    """In words how many meet a target, and which do not; nothing where none is judged."""
+    known = [(name, one) for name, one in judgements if one != "-"]
+    missed = [name for name, one in known if one == "MISSED"]
+    if known:
+        yield (f"{lines}, at most {target} times the C by {what}: "
+               f"{len(known) - len(missed)} of {len(known)} {many}"
                + (f"; not: {'; '.join(missed)}." if missed else "."))
 
 
@@ -71,12 +77,17 @@ def ordered(rows, column):
     return list(dict.fromkeys(row[column] for row in rows))
 
 
-def call_ratios(rows, counted, emulated):
-    """By shape and call the ratio that is held to the target, as judged."""
-    if not emulated:
-        return {(row[0], row[1]): row[5] / row[4] for row in rows}
-    return {key: counted[key + ("pieces",)] / counted[key + ("plain",)]
+def call_counts(rows, counted):
+    """By shape and call the ratio of the instructions, where they are counted."""
+    return {key: counted[key + ("pieces",)][0] / counted[key + ("plain",)][0]
             for key in ((row[0], row[1]) for row in rows) if key + ("plain",) in counted}
+
+
+def call_ratios(rows, counted, emulated):
+    """By shape and call the ratio of the times; of the instructions where an emulator runs them."""
+    if emulated:
+        return call_counts(rows, counted)
+    return {(row[0], row[1]): row[5] / row[4] for row in rows}
 
 
 def ratio_table(rows, ratios):
@@ -89,12 +100,14 @@ def ratio_table(rows, ratios):
 
 def call_table(rows, counted):
     head = ["Shape", "call", "C, ns a call", "libpieces.a", "ratio", "C, instructions",
-            "libpieces.a, instructions", "ratio of instructions"]
+            "libpieces.a, instructions", "ratio of instructions", "C, stores", "libpieces.a, stores"]
     lines = []
     for shape, call, _, _, plain, pieces in rows:
-        wanted, got = (counted.get((shape, call, side)) for side in ("plain", "pieces"))
+        (wanted, put), (got, stored) = (counted.get((shape, call, side), (None, None))
+                                        for side in ("plain", "pieces"))
         lines.append([shape, call, figure(plain, 0), figure(pieces, 0), ratio(pieces, plain),
-                      figure(wanted, 0), figure(got, 0), ratio(got, wanted)])
+                      figure(wanted, 0), figure(got, 0), ratio(got, wanted), figure(put, 0),
+                      figure(stored, 0)])
     return table(head, lines)
 
 

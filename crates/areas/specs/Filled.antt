@@ -1,24 +1,23 @@
--- A list whose first entries are 0, and work that is clear.
-use mathlib.Core.Path.{_≡_, sym, ap, _∙_, subst}
+-- A list whose first entries are set to 0.
+use mathlib.Core.Path.{_≡_, ap, _∙_}
 use mathlib.Core.List.{List, _++_}
-use Prim.Native.Nat.{ℕ, _*_, _≤_, _<_}
-use lib.ListN.{length, drop, take, replicate, length-replicate, getD-replicate, take-append-drop}
-use lib.Seq.{ext-getD, getD-take, length-take-le}
+use Prim.Native.Nat.{ℕ, _≤_, _<_}
+use native.Mathlib.Omega.{arith}
+use lib.ListN.{length, drop, replicate, length-append, length-replicate, length-drop, getD-replicate, List·getD-append}
+use lib.Seq.{drop-at}
 use Rattle.rules.specs.Lists.{_!_}
 
--- work has at least 8N entries, of which the first 8N are 0
-pub record Clear (n : ℕ) (w : List ℕ) : Type 0 where
-  pub size : 8 * n ≤ length w
-  pub zeros : (i : ℕ) → i < 8 * n → w ! i ≡ 0
+-- the first k entries of w′ are 0, the later ones those of w
+pub record Zeroed (k : ℕ) (w w′ : List ℕ) : Type 0 where
+  pub size : length w′ ≡ length w
+  pub zeros : (i : ℕ) → i < k → w′ ! i ≡ 0
+  pub later : drop k w′ ≡ drop k w
 
--- written over with 0 such a list is the same
-pub front-zeros : (k : ℕ) (w : List ℕ) → k ≤ length w → ((i : ℕ) → i < k → w ! i ≡ 0) → replicate k 0 ++ drop k w ≡ w
-front-zeros k w h z = ap (λ (f : List ℕ). f ++ drop k w) (sym front) ∙ take-append-drop k w
-  where
-    size : length (take k w) ≡ k
-    size = length-take-le k w h
-
-    front : take k w ≡ replicate k 0
-    front = ext-getD 0 (take k w) (replicate k 0) (size ∙ sym (length-replicate k 0)) (λ i l.
-        let m : i < k = subst (λ (x : ℕ). i < x) size l in
-        getD-take k w i 0 m ∙ z i m ∙ sym (getD-replicate k i 0 0 m))
+-- filled with 0 it is so
+pub zeroed : (k : ℕ) (w : List ℕ) {w′ : List ℕ} → k ≤ length w → w′ ≡ replicate k 0 ++ drop k w → Zeroed k w w′
+zeroed k w h e = record {
+  size = ap length e ∙ simp (length-append, length-replicate, length-drop) (omega arith);
+  zeros = λ i l.
+      ap (λ (x : List ℕ). x ! i) e ∙ List·getD-append (replicate k 0) (drop k w) 0 i (omega (arith, length-replicate {A = ℕ} k 0)) ∙ getD-replicate k i 0 0 l;
+  later = ap (drop k) e ∙ drop-at (replicate k 0) (drop k w) k (length-replicate k 0);
+}

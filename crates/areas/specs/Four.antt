@@ -6,18 +6,22 @@ use native.Mathlib.Omega.{arith}
 use lib.ListN.{getD}
 use Rattle.rules.specs.Limits.{none}
 
--- the word of four empty links; from here on up the last three are empty
+-- the word of four empty links; from here on up the last three are empty; the last two
 abbrev pub fourNone : ℕ
 fourNone = 18446744073709551615
 
 abbrev pub oneAtMost : ℕ
 oneAtMost = 18446744073709486080
 
+abbrev pub twoAtMost : ℕ
+twoAtMost = 18446744069414584320
+
 -- what the word w says of the links of p
 pub record Four (links : List ℕ) (p w : ℕ) : Type 0 where
   pub empty : w ≡ fourNone → (k : ℕ) → k < 4 → getD links (4 * p + k) 0 ≡ none
   pub named : (w ≡ fourNone → ⊥) → ((k : ℕ) → k < 4 → getD links (4 * p + k) 0 ≡ none) → ⊥
   pub rest : oneAtMost ≤ w → (k : ℕ) → k < 4 → 0 < k → getD links (4 * p + k) 0 ≡ none
+  pub last : twoAtMost ≤ w → (k : ℕ) → k < 4 → 1 < k → getD links (4 * p + k) 0 ≡ none
 
 -- P at each of the four places
 pub at-four : (P : ℕ → Type 0) → P 0 → P 1 → P 2 → P 3 → (k : ℕ) → k < 4 → P k
@@ -41,4 +45,6 @@ four-is {links} {p} bound e =
       named = λ f all. f (omega (arith, all 0 (omega arith), all 1 (omega arith), all 2 (omega arith), all 3 (omega arith)));
       rest = λ z.
           at-four (λ k. 0 < k → getD links (4 * p + k) 0 ≡ none) (λ h. absurd (omega arith)) (λ h. omega arith) (λ h. omega arith) (λ h. omega arith);
+      last = λ z.
+          at-four (λ k. 1 < k → getD links (4 * p + k) 0 ≡ none) (λ h. absurd (omega arith)) (λ h. absurd (omega arith)) (λ h. omega arith) (λ h. omega arith);
     }

@@ -143,10 +143,12 @@ pub fn lowest_free(n: usize, states: &[u8], from: usize) -> usize
     lowest_near(n, states, near)
 }
 
-// The word of four empty links, and the lowest of those whose last three are empty.
+// The word of four empty links, and the lowest of those whose last three are empty, and last two.
 pub const FOUR_NONE: u64 = 18446744073709551615;
 
 pub const ONE_AT_MOST: u64 = 18446744073709486080;
+
+pub const TWO_AT_MOST: u64 = 18446744069414584320;
 
 // The four links of a piece as one word, the first lowest.
 pub fn four(links: &[u16], p: usize) -> u64

@@ -23,7 +23,7 @@ use Rattle.laws.specs.Verdicts.{bare-did, any-list}
 use Rattle.into.specs.Stores.{IntoBase, with-into, leavesInto, into-ready, still-into}
 use Rattle.entering.specs.declared.Entry.{Entry}
 use Rattle.entering.specs.declared.Entry.the-variants.{Short, Flawed, Sound}
-use Rattle.entering.specs.Entered.{fits, Entered, began-by, entered-ready}
+use Rattle.entering.specs.Entered.{fits, Entered, began-by, entered-ready, left-clear}
 
 -- ---- the arms of a call that takes work
 
@@ -53,42 +53,42 @@ module _ {s : Store} {l w w′ : List ℕ} {r : Entry} where
 
   module _ {c : Command} where
     -- refused by UNSOUND
-    pub flawed-arm : {a : Reply} → a ≡ refusedBy Unsound c → Entered s (roomOf (does c) s l) w r w′ → r ≡ Flawed
-        → Promise (does c) (areasOf s l w) (outcome a (areasOf s l w′))
-    flawed-arm said x is =
+    pub flawed-arm : {a : Reply} {w″ : List ℕ} → a ≡ refusedBy Unsound c → Entered s (roomOf (does c) s l) w r w′ → r ≡ Flawed → w″ ≡ clear (s .tables .base .n) w′
+        → Promise (does c) (areasOf s l w) (outcome a (areasOf s l w″))
+    flawed-arm said x is left =
         let b = began-by x is in
-        rw (said, b .2) (flawed (areasOf s l w) c (rw (command-lent c s l w) (b .0)) (b .1))
+        rw (said, left-clear (s .tables .base .n) (b .2) left) (flawed (areasOf s l w) c (rw (command-lent c s l w) (b .0)) (b .1))
 
-    -- the command has done its work, and left work clear
+    -- the command has done its work, and work is cleared
     pub sound-arm : {a : Reply} {s′ : Store} {l′ w″ : List ℕ} → Entered s (roomOf (does c) s l) w r w′ → r ≡ Sound
-        → Did c s l (effect a s′ l′) → w″ ≡ w′ → Promise (does c) (areasOf s l w) (outcome a (areasOf s′ l′ w″))
-    sound-arm {a} {s′} {l′} x is d same =
+        → Did c s l (effect a s′ l′) → w″ ≡ clear (s .tables .base .n) w′ → Promise (does c) (areasOf s l w) (outcome a (areasOf s′ l′ w″))
+    sound-arm {a} {s′} {l′} x is d left =
         let b = began-by x is in
-        rw (same, b .2) (through (areasOf s l w) c (effect a s′ l′) (rw (command-lent c s l w) (b .0)) (b .1) d)
+        rw (left-clear (s .tables .base .n) (b .2) left) (through (areasOf s l w) c (effect a s′ l′) (rw (command-lent c s l w) (b .0)) (b .1) d)
 
     -- one that settles nothing does not look at the list
     pub unlisted-arm : {a : Reply} {s′ : Store} {w″ : List ℕ} → settles c ≡ false → Entered s (roomOf (does c) s l) w r w′ → r ≡ Sound
-        → Did c s [] (effect a s′ []) → w″ ≡ w′ → Promise (does c) (areasOf s l w) (outcome a (areasOf s′ l w″))
-    unlisted-arm off x is d same = sound-arm x is (any-list off d) same
+        → Did c s [] (effect a s′ []) → w″ ≡ clear (s .tables .base .n) w′ → Promise (does c) (areasOf s l w) (outcome a (areasOf s′ l w″))
+    unlisted-arm off x is d left = sound-arm x is (any-list off d) left
 
 -- a command that names no seat has done its work on the tables, and left the register as it was
 module _ {t : Tables} {register into l w w′ : List ℕ} {r : Entry} {c : Command}
     (x : Entered (storeOn t register into) (roomOf (does c) (storeOn t register into) l) w r w′) (is : r ≡ Sound) where
   -- it kept the links into each draft right
   pub tables-arm : {a : Reply} {t′ : Tables} {into′ l′ w″ : List ℕ} → namesSeat c ≡ false
-      → DidTables c t l (tablesEffect a t′ l′) × IntoBase (t′ .base) into′ → w″ ≡ w′
+      → DidTables c t l (tablesEffect a t′ l′) × IntoBase (t′ .base) into′ → w″ ≡ clear (t .base .n) w′
       → Promise (does c) (areasOf (storeOn t register into) l w) (outcome a (areasOf (storeOn t′ register into′) l′ w″))
-  tables-arm bare d same = sound-arm x is (with-into (into-ready (entered-ready x is)) (d .1) (bare-did bare (d .0))) same
+  tables-arm bare d left = sound-arm x is (with-into (into-ready (entered-ready x is)) (d .1) (bare-did bare (d .0))) left
 
   -- or left them
-  pub still-arm : {a : Reply} {t′ : Tables} {register′ l′ w″ : List ℕ} → leavesInto c ≡ true → Did c (storeBy t register) l (effect a (storeBy t′ register′) l′) → w″ ≡ w′
+  pub still-arm : {a : Reply} {t′ : Tables} {register′ l′ w″ : List ℕ} → leavesInto c ≡ true → Did c (storeBy t register) l (effect a (storeBy t′ register′) l′) → w″ ≡ clear (t .base .n) w′
       → Promise (does c) (areasOf (storeOn t register into) l w) (outcome a (areasOf (storeOn t′ register′ into) l′ w″))
-  still-arm leaves d same = sound-arm x is (still-into leaves (entered-ready x is) d) same
+  still-arm leaves d left = sound-arm x is (still-into leaves (entered-ready x is) d) left
 
   pub still-unlisted-arm : {a : Reply} {t′ : Tables} {register′ w″ : List ℕ} → leavesInto c ≡ true → settles c ≡ false
-      → Did c (storeBy t register) [] (effect a (storeBy t′ register′) []) → w″ ≡ w′
+      → Did c (storeBy t register) [] (effect a (storeBy t′ register′) []) → w″ ≡ clear (t .base .n) w′
       → Promise (does c) (areasOf (storeOn t register into) l w) (outcome a (areasOf (storeOn t′ register′ into) l w″))
-  still-unlisted-arm leaves off d same = still-arm leaves (any-list off d) same
+  still-unlisted-arm leaves off d left = still-arm leaves (any-list off d) left
 
 -- ---- check; it and start are refused by SIZE alone
 
@@ -106,13 +106,13 @@ check-said s l w r t e = record {
       ∙ sym (accepted-outcome (areasOf s l w) check (lent-accepted _ check (unfold laterRefusals in refl) (rw (lent-is check refl s l w) t)));
 }
 
-module _ {s : Store} {l w w′ : List ℕ} {r : Entry} where
-  pub check-no : Entered s (roomOf check s l) w r w′ → r ≡ Flawed → Promise check (areasOf s l w) (outcome (checked No) (areasOf s l w′))
-  check-no x is =
+module _ {s : Store} {l w w′ w″ : List ℕ} {r : Entry} (x : Entered s (roomOf check s l) w r w′) where
+  pub check-no : r ≡ Flawed → w″ ≡ clear (s .tables .base .n) w′ → Promise check (areasOf s l w) (outcome (checked No) (areasOf s l w″))
+  check-no is left =
       let b = began-by x is in
-      rw (b .2) (check-said s l w No (b .0) (sym (pick-false (isSoundStore s) Yes No (b .1))))
+      rw (left-clear (s .tables .base .n) (b .2) left) (check-said s l w No (b .0) (sym (pick-false (isSoundStore s) Yes No (b .1))))
 
-  pub check-yes : Entered s (roomOf check s l) w r w′ → r ≡ Sound → Promise check (areasOf s l w) (outcome (checked Yes) (areasOf s l w′))
-  check-yes x is =
+  pub check-yes : r ≡ Sound → w″ ≡ clear (s .tables .base .n) w′ → Promise check (areasOf s l w) (outcome (checked Yes) (areasOf s l w″))
+  check-yes is left =
       let b = began-by x is in
-      rw (b .2) (check-said s l w Yes (b .0) (sym (pick-true (isSoundStore s) Yes No (b .1))))
+      rw (left-clear (s .tables .base .n) (b .2) left) (check-said s l w Yes (b .0) (sym (pick-true (isSoundStore s) Yes No (b .1))))

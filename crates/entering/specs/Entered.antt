@@ -1,19 +1,18 @@
--- How a call begins: the sizes, then the soundness, with work cleared unless a size is wrong.
-use mathlib.Core.Path.{_≡_, sym, ap, _∙_, subst}
+-- How a call begins and ends: the sizes, then the soundness; on the way out work is cleared, unless a size is wrong.
+use mathlib.Core.Path.{_≡_, ap, _∙_, subst}
 use mathlib.Core.Bool.{Bool, not}
 use mathlib.Core.List.{List, _++_}
-use Prim.Native.Nat.{ℕ, _*_, _≤_, _<_}
+use Prim.Native.Nat.{ℕ, _*_, _≤_}
 use native.Mathlib.Omega.{arith}
 use lib.Dec.{T, leb, leb→le, le→leb}
-use lib.ListN.{length, getD, drop, replicate, length-append, length-replicate, getD-replicate}
-use lib.Seq.{getD-take, take-append-seam}
+use lib.ListN.{length, replicate}
 use Rattle.rules.specs.Tests.{_&_}
 use Rattle.rules.specs.Tables.{Store, storeBy, isSoundStore}
 use Rattle.rules.specs.Words.{SizedStore}
 use Rattle.rules.specs.Calls.{isSizedStore, clear, Ready, ReadyStore}
-use Rattle.areas.specs.Filled.{Clear, front-zeros}
 use Rattle.laws.specs.Tests.{and-both, and-left, and-right}
 use Rattle.laws.specs.Calls.{sized-store→, →sized-store, ready-tables}
+use Rattle.tallies.specs.Adding.{LaterSame}
 use Rattle.into.specs.Stores.{IntoBase, into-ready, ready-by}
 use Rattle.demands.specs.Sound.{sound-store→}
 use Rattle.entering.specs.declared.Entry.{Entry}
@@ -25,8 +24,8 @@ fits s room work = isSizedStore s & leb (s .tables .base .n) room & leb (8 * s .
 
 abbrev pub Began : Store → ℕ → List ℕ → Entry → List ℕ → Type 0
 Began s room work Short work′ = T (not (fits s room work)) × (work′ ≡ work)
-Began s room work Flawed work′ = T (fits s room work) × T (not (isSoundStore s)) × (work′ ≡ clear (s .tables .base .n) work)
-Began s room work Sound work′ = T (fits s room work) × T (isSoundStore s) × (work′ ≡ clear (s .tables .base .n) work)
+Began s room work Flawed work′ = T (fits s room work) × T (not (isSoundStore s)) × LaterSame (8 * s .tables .base .n) work work′
+Began s room work Sound work′ = T (fits s room work) × T (isSoundStore s) × LaterSame (8 * s .tables .base .n) work work′
 
 pub record Entered (s : Store) (room : ℕ) (work : List ℕ) (r : Entry) (work′ : List ℕ) : Type 0 where
   pub began : Began s room work r work′
@@ -67,19 +66,6 @@ module _ {s : Store} {room : ℕ} {work : List ℕ} where
 
 -- ---- what the inner door asks: a sound store, with N entries of list or with 8N of work
 
-pub work-clear : (n : ℕ) (work : List ℕ) → 8 * n ≤ length work → Clear n (clear n work)
-unfolding clear
-work-clear n work h = record {
-  size = omega (arith, length-append z (drop (8 * n) work), length-replicate {A = ℕ} (8 * n) 0);
-  zeros = λ i l.
-      let k : i < length z = subst (λ (x : ℕ). i < x) (sym (length-replicate {A = ℕ} (8 * n) 0)) l in
-      sym (getD-take (length z) (z ++ drop (8 * n) work) i 0 k) ∙ ap (λ (x : List ℕ). getD x i 0) (take-append-seam z (drop (8 * n) work))
-      ∙ getD-replicate (8 * n) i 0 0 l;
-}
-  where
-    z : List ℕ
-    z = replicate (8 * n) 0
-
 module _ {s : Store} {room : ℕ} {work work′ : List ℕ} {r : Entry} (x : Entered s room work r work′) (is : r ≡ Sound) where
   pub entered-ready : ReadyStore s
   entered-ready =
@@ -90,15 +76,8 @@ module _ {s : Store} {room : ℕ} {work work′ : List ℕ} {r : Entry} (x : Ent
   entered-listed : ReadyStore s × (s .tables .base .n ≤ room)
   entered-listed = (entered-ready, fits→ (began-by x is .0) .listed)
 
-  entered-clear : Clear (s .tables .base .n) work′
-  entered-clear = let b = began-by x is in rw (b .2) (work-clear (s .tables .base .n) work (fits→ (b .0) .worked))
-
   pub entered-wide : ReadyStore s × (8 * s .tables .base .n ≤ length work′)
-  entered-wide = (entered-ready, entered-clear .size)
-
-  -- what a freeze left in work is cleared away
-  pub cleared-again : {work₁ : List ℕ} → work₁ ≡ replicate (8 * s .tables .base .n) 0 ++ drop (8 * s .tables .base .n) work′ → work₁ ≡ work′
-  cleared-again e = e ∙ front-zeros (8 * s .tables .base .n) work′ (entered-clear .size) (entered-clear .zeros)
+  entered-wide = let b = began-by x is in (entered-ready, omega (arith, fits→ (b .0) .worked, b .2 .size))
 
   -- the rooms below the register ask it of the tables
   pub entered-tables : Ready (s .tables)
@@ -114,3 +93,21 @@ module _ {s : Store} {room : ℕ} {work work′ : List ℕ} {r : Entry} (x : Ent
 
   pub entered-by-listed : ReadyStore (storeBy (s .tables) (s .register)) × (s .tables .base .n ≤ room)
   entered-by-listed = (entered-by, entered-listed .1)
+
+-- ---- the way out: what the walks left in work is cleared away
+
+-- what `leave` asks
+abbrev pub Leaving : ℕ → List ℕ → Type 0
+Leaving n work = (n ≤ 1024) × (8 * n ≤ length work)
+
+module _ {s : Store} {room : ℕ} {work work′ : List ℕ} {r : Entry} (x : Entered s room work r work′) where
+  pub flawed-leaving : r ≡ Flawed → Leaving (s .tables .base .n) work′
+  flawed-leaving is = let b = began-by x is in let z = fits→ (b .0) in (z .sized .tables .base .most, omega (arith, z .worked, b .2 .size))
+
+  pub sound-leaving : r ≡ Sound → Leaving (s .tables .base .n) work′
+  sound-leaving is = let b = entered-wide x is in (b .0 .sized .tables .base .most, b .1)
+
+-- whatever they left there
+pub left-clear : (n : ℕ) {work work′ work₁ : List ℕ} → LaterSame (8 * n) work work′ → work₁ ≡ clear n work′ → work₁ ≡ clear n work
+unfolding clear
+left-clear n k e = e ∙ ap (λ (l : List ℕ). replicate (8 * n) 0 ++ l) (k .later)

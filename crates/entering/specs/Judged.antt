@@ -14,11 +14,12 @@ use Rattle.rules.specs.Below.{every}
 use Rattle.rules.specs.Register.{isRight, heldIn}
 use Rattle.rules.specs.Tables.{Tables, Store, storeOn, holdsOf, isSound, sumsRight, intoRight, isSoundStore}
 use Rattle.rules.specs.Words.{SizedStore}
-use Rattle.rules.specs.Calls.{isSized, isSizedStore, clear}
+use Rattle.rules.specs.Calls.{isSized, isSizedStore}
 use Rattle.laws.specs.Tests.{and-both}
 use Rattle.laws.specs.Calls.{sized-store→, →sized-store}
+use Rattle.tallies.specs.Adding.{LaterSame, later-then, later-on}
 use Rattle.entering.specs.declared.Entry.the-variants.{Short, Flawed, Sound}
-use Rattle.entering.specs.Entered.{fits, Entered, Fitted, fits→, →fits, work-clear}
+use Rattle.entering.specs.Entered.{fits, Entered, Fitted, fits→, →fits}
 
 -- ---- sizes
 
@@ -105,19 +106,8 @@ module _ {s : Store} {room : ℕ} {work : List ℕ} where
   pub fitted : {r : Bool} → not r ≡ false → r ≡ isSizedStore s → s .tables .base .n ≤ room → 8 * s .tables .base .n ≤ length work → Fitted s room work
   fitted e f l w = let z = sizes e f in record { least = z .0; sized = z .1; listed = l; worked = w }
 
-  -- so the register can be held against the holds, over work that is clear
-  pub agreeing-of : {work′ : List ℕ} → Fitted s room work → work′ ≡ clear (s .tables .base .n) work
-      → (s .tables .base .n ≤ 1024) × (length (s .register) ≡ entries) × (length (s .tables .base .holds) ≡ s .tables .base .n) × (s .tables .base .n ≤ length work′)
-      × ((p : ℕ) → p < s .tables .base .n → work′ ! p ≡ 0)
-  agreeing-of z w =
-      let n = s .tables .base .n in
-      let x = work-clear n work (z .worked) in
-      let least : n ≤ length (clear n work) = omega (arith, x .size) in
-      rw w (z .sized .tables .base .most, z .sized .register, z .sized .tables .base .holds, least, λ p h. x .zeros p (omega arith))
-
   -- the tables are not sound, or the links into a draft are not right
-  pub judged-flawed : {r : Bool} {work′ : List ℕ} → Fitted s room work → not r ≡ true → r ≡ follows s → work′ ≡ clear (s .tables .base .n) work
-      → Entered s room work Flawed work′
+  pub judged-flawed : {r : Bool} {work′ : List ℕ} → Fitted s room work → not r ≡ true → r ≡ follows s → LaterSame (8 * s .tables .base .n) work work′ → Entered s room work Flawed work′
   judged-flawed z e f w = record { began = (→fits z, rw sound-is (go (follows s) (agrees s) (denied e f)), w) }
     where
       go : (b c : Bool) → T (not b) → T (not (b & c))
@@ -125,13 +115,16 @@ module _ {s : Store} {room : ℕ} {work : List ℕ} where
       go false c t = tt
 
   -- they are, and the register decides
-  module _ {r a : Bool} {work′ work″ : List ℕ} (z : Fitted s room work) (e : not r ≡ false) (f : r ≡ follows s) (w : work′ ≡ clear (s .tables .base .n) work)
-      (g : a ≡ agrees s) (same : work″ ≡ work′) where
+  module _ {r a : Bool} {work′ work″ : List ℕ} (z : Fitted s room work) (e : not r ≡ false) (f : r ≡ follows s) (g : a ≡ agrees s) (w : LaterSame (8 * s .tables .base .n) work work′)
+      (v : LaterSame (s .tables .base .n) work′ work″) where
+    later : LaterSame (8 * s .tables .base .n) work work″
+    later = later-then w (later-on (8 * s .tables .base .n) (omega arith) v)
+
     pub judged-sound : a ≡ true → Entered s room work Sound work″
-    judged-sound is = record { began = (→fits z, rw sound-is (and-both (follows s) (agrees s) (granted e f) (subst T (sym is ∙ g) tt)), same ∙ w) }
+    judged-sound is = record { began = (→fits z, rw sound-is (and-both (follows s) (agrees s) (granted e f) (subst T (sym is ∙ g) tt)), later) }
 
     pub judged-apart : a ≡ false → Entered s room work Flawed work″
-    judged-apart is = record { began = (→fits z, rw sound-is (go (follows s) (agrees s) (subst (λ (b : Bool). T (not b)) (sym is ∙ g) tt)), same ∙ w) }
+    judged-apart is = record { began = (→fits z, rw sound-is (go (follows s) (agrees s) (subst (λ (b : Bool). T (not b)) (sym is ∙ g) tt)), later) }
       where
         go : (b c : Bool) → T (not c) → T (not (b & c))
         go true c t = t

@@ -1,8 +1,8 @@
-// How every call but start begins: the sizes, then the soundness.
+// How every call but start begins and ends: the sizes, then the soundness; on the way out work is cleared.
 ghost use mathlib.Core.Path.{_≡_};
 ghost use Rattle.rules.specs.Tables.{storeOf};
-ghost use Rattle.rules.specs.Calls.{isSizedStore};
-ghost use Rattle.entering.specs.Entered.{Entered};
+ghost use Rattle.rules.specs.Calls.{isSizedStore, clear};
+ghost use Rattle.entering.specs.Entered.{Entered, Leaving};
 use rules::Store;
 
 // How a call begins.
@@ -38,7 +38,8 @@ pub fn sized(
     areas::sized(n, states, links, leaders, holds, counts)
 }
 
-// What every call but start does first: the sizes, with room entries of list, then the soundness; work is clear but for a wrong size.
+// What every call but start does first: the sizes, with room entries of list, then the soundness.
+// A wrong size leaves work unchanged; else its first 8N entries may hold anything afterwards.
 pub fn enter(
     n: usize,
     states: &[u8],
@@ -71,4 +72,12 @@ pub fn enter(
         return Entry::Sound;
     }
     Entry::Flawed
+}
+
+// What every call but start does last, unless a size is wrong: the first 8N entries of work become 0.
+pub fn leave(n: usize, work: &mut [u32])
+    requires { ⌜ Leaving n (now work) ⌝ }
+    ensures { λ _. ⌜ now (work .exit) ≡ clear n (now (work .entry)) ⌝ }
+{
+    areas::fill_u32(work, 8 * n, 0);
 }

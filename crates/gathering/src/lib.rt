@@ -6,21 +6,27 @@ ghost use Rattle.gathering.specs.Walked.{Gathered};
 use rules::Store;
 
 // Puts t at the tail of the queue, if it is a draft that does not stand there yet. Gives the new tail.
-fn put(n: usize, states: &[u8], leaders: &mut [u16], work: &mut [u32], t: u16, tail: usize) -> usize
+fn put(
+    n: usize,
+    states: &[u8],
+    leaders: &mut [u16],
+    work: &mut [u32],
+    t: usize,
+    tail: usize,
+) -> usize
     requires { ⌜ Putting n (now states) (now leaders) (now work) t tail ⌝ }
     ensures { λ r. ⌜ Put n (now (states .entry)) (now (leaders .entry)) (now (work .entry)) t tail (now (leaders .exit)) (now (work .exit)) r ⌝ }
 {
-    let q = t as usize;
-    if n <= q {
+    if n <= t {
         return tail;
     }
-    if states[q] != Store::DRAFT {
+    if leaders[t] != Store::NONE {
         return tail;
     }
-    if leaders[q] != Store::NONE {
+    if states[t] != Store::DRAFT {
         return tail;
     }
-    leaders[q] = t;
+    leaders[t] = t as u16;
     work[6 * n + tail] = t as u32;
     tail + 1
 }
@@ -39,10 +45,10 @@ fn look(
     ensures { λ r. ⌜ LookedAt n (now (states .entry)) (now (links .entry)) q (now (leaders .entry)) (now (work .entry)) tail 4 (now (leaders .exit)) (now (work .exit)) r ⌝ }
 {
     let at = Store::LINKS * q;
-    let one = put(n, states, leaders, work, links[at], tail);
-    let two = put(n, states, leaders, work, links[at + 1], one);
-    let three = put(n, states, leaders, work, links[at + 2], two);
-    put(n, states, leaders, work, links[at + 3], three)
+    let one = put(n, states, leaders, work, links[at] as usize, tail);
+    let two = put(n, states, leaders, work, links[at + 1] as usize, one);
+    let three = put(n, states, leaders, work, links[at + 2] as usize, two);
+    put(n, states, leaders, work, links[at + 3] as usize, three)
 }
 
 // Gathers draft p and every draft that it reaches in the seventh region of work. Gives how many they are.

@@ -73,7 +73,7 @@ module _ {n : ℕ} {ss ls : List ℕ} {k : ℕ} {w : List ℕ} {a : At} (G : Und
     Good s left = GoodAt s left target
 
     -- a place of the piece is explored, after whatever else
-    bumps : {old : Regions} {root : ℕ} {s : Regions} {size blocks stand : ℕ} → a .stand < size → s .stack ! a .stand ≡ a .piece → s .next ! a .piece ≡ a .place
+    pub bumps : {old : Regions} {root : ℕ} {s : Regions} {size blocks stand : ℕ} → a .stand < size → s .stack ! a .stand ≡ a .piece → s .next ! a .piece ≡ a .place
         → Invariant g old root s size blocks stand → Good s blocks → Invariant g old root (bumped s (a .piece)) size blocks stand
     bumps {old} {root} {s} {size} {blocks} {stand} lt e f I good =
         subst (λ (x : ℕ). Invariant g old root (bumped s x) size blocks stand) e
@@ -84,7 +84,7 @@ module _ {n : ℕ} {ss ls : List ℕ} {k : ℕ} {w : List ℕ} {a : At} (G : Und
     one : view n w (nextPlace a (a .blocks)) ≡ bumped (view n w a) (a .piece)
     one = moved-one (regions n w) (a .piece) (a .place) (omega (arith, next-length, G .stands .piece-lt))
 
-    less : (s : Regions) (size stand : ℕ) → stand ≤ n → s .next ≡ bumped (view n w a) (a .piece) .next → measure n s size stand < measure n (view n w a) (a .size) (a .stand)
+    pub less : (s : Regions) (size stand : ℕ) → stand ≤ n → s .next ≡ bumped (view n w a) (a .piece) .next → measure n s size stand < measure n (view n w a) (a .size) (a .stand)
     less s size stand le e =
         let r = bump-rest n (view n w a) (a .piece) (G .stands .piece-lt) view-length (omega (arith, place-is, four)) in
         omega (arith, r, ap (λ (l : List ℕ). rest l n) e, height-le size stand, height-pos (a .size) (a .stand) (G .live), G .lent .most)
@@ -126,14 +126,14 @@ module _ {n : ℕ} {ss ls : List ℕ} {k : ℕ} {w : List ℕ} {a : At} (G : Und
           link : Link n (g .at) (a .piece) target
           link = record { from = G .stands .piece-lt; to = y-n; place = a .place; inside = four; names = refl }
 
-          target-reached : {old : Regions} {root : ℕ} → Positioned n ss ls k old root w a → Reached g root target
+          pub target-reached : {old : Regions} {root : ℕ} → Positioned n ss ls k old root w a → Reached g root target
           target-reached S = reached-next (piece-reached S) (S .piece-lt) (a .place) four y-n y-in
 
           way : part n (3 * n) w ! a .stand ≡ a .piece → Way g (part n (3 * n) w ! a .stand) target
           way e = subst (λ (x : ℕ). Way g x target) (sym e) (one-step link)
 
           module _ (zero-mark : mark ≡ 0) where
-            fresh : part n 0 w ! target ≡ 0
+            pub fresh : part n 0 w ! target ≡ 0
             fresh = marked ∙ zero-mark
 
             -- there is room for the target on the stack

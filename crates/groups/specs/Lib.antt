@@ -3,9 +3,11 @@ pub mod Steps
 pub mod Loops
 pub mod Stores
 pub mod Explore
+pub mod Leaf
 pub mod Advance
 pub mod Finish
 pub mod Whole
 pub mod Grouped
 pub mod Root
 pub mod Roots
+pub mod Unset

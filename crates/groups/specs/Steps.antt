@@ -1,9 +1,9 @@
 -- What the functions of the search require and ensure, over the lists of the tables.
 use mathlib.Core.Path.{_≡_}
 use mathlib.Core.List.{List}
-use mathlib.Core.Logic.{_⊎_}
 use Prim.Native.Nat.{ℕ, pred, _+_, _*_, _≤_, _<_}
 use lib.ListN.{length, set}
+use Rattle.rules.specs.Limits.{none}
 use Rattle.rules.specs.Lists.{_!_}
 use Rattle.paths.specs.Ground.{ground, OneWay, Reached}
 use Rattle.paths.specs.Search.{finishedMark, Regions, Invariant, Calm, Visited, measure}
@@ -55,11 +55,16 @@ pub record Came (n : ℕ) (states links : List ℕ) (class : ℕ) (w : List ℕ)
   pub most : measure n (view n w′ a′) (a′ .size) (a′ .stand) ≤ measure n (view n w a) (a .size) (a .stand)
   pub tail-same : tail n w′ ≡ tail n w
 
--- a piece is pushed, or every place of the search's piece is explored
+-- every place of the piece at which the search then stands is explored
 pub record Advanced (n : ℕ) (states links : List ℕ) (class : ℕ) (w : List ℕ) (a : At) (w′ : List ℕ) (a′ : At) : Type 0 where
   pub came : Came n states links class w a w′ a′
-  pub done : (a′ .place ≡ 4) ⊎ (measure n (view n w′ a′) (a′ .size) (a′ .stand) < measure n (view n w a) (a .size) (a .stand))
+  pub four : a′ .place ≡ 4
   pub live : 0 < a′ .size
+
+-- no place of the piece from `end` on names a piece
+pub record Ending (links : List ℕ) (piece end : ℕ) : Type 0 where
+  pub few : end ≤ 4
+  pub empty : (j : ℕ) → end ≤ j → j < 4 → links ! (4 * piece + j) ≡ none
 
 -- there is room on the stack for the piece
 pub record Stackable (n : ℕ) (w : List ℕ) (size blocks stand piece : ℕ) : Type 0 where
@@ -108,6 +113,10 @@ pub record ClosedOff (n : ℕ) (w : List ℕ) (stand size low : ℕ) (w′ : Lis
   pub starts-same : part n (4 * n) w′ ≡ part n (4 * n) w
   pub parents-same : part n (5 * n) w′ ≡ part n (5 * n) w
   pub tail-same : tail n w′ ≡ tail n w
+
+-- a piece is finished as a group of its own
+abbrev pub closedOne : ℕ → List ℕ → ℕ → List ℕ
+closedOne n w piece = set (set w piece finishedMark) (2 * n + piece) piece
 
 -- a position of the stack with a piece
 pub record Resumable (n : ℕ) (w : List ℕ) (stand : ℕ) : Type 0 where

@@ -8,7 +8,8 @@ ghost use Rattle.rules.specs.Lists.{_!_};
 ghost use Rattle.paths.specs.Ground.{OneWay, ground};
 ghost use Rattle.paths.specs.Moves.Pop.{LowestOnStack};
 ghost use Rattle.groups.specs.Layout.{part};
-ghost use Rattle.groups.specs.Steps.{UnderWay, Exhausted, Progressed, Advanced, Stackable, stacked, Blocks, Cut, Pieces, ClosedOff, Resumable, Resumed, Started, Searched};
+ghost use Rattle.groups.specs.Steps.{Lent, UnderWay, Exhausted, Progressed, Advanced, Stackable, stacked, Blocks, Cut, Ending, closedOne};
+ghost use Rattle.groups.specs.Steps.{Pieces, ClosedOff, Resumable, Resumed, Started, Searched};
 ghost use Rattle.groups.specs.Grouped.{Searchable, Visitable, Grouped, Led, ReachedFrom, Of};
 use rules::Store;
 
@@ -60,46 +61,71 @@ fn merge(n: usize, work: &[u32], blocks: usize, position: usize) -> usize
     left
 }
 
-// Explores the places of the piece at which the search stands, until one is pushed or none is left.
+// The place from which on a piece names nothing, where its four links at once show it after one place or two; else 4.
+fn until(links: &[u16], piece: usize, place: usize) -> usize
+    requires { ⌜ 4 * piece + 3 < length (now links) ⌝ }
+    ensures { λ r. ⌜ Ending (now (links .entry)) piece r ⌝ }
+{
+    if place == 1 {
+        let word = areas::four(links, piece);
+        if areas::ONE_AT_MOST <= word {
+            return 1;
+        }
+        if areas::TWO_AT_MOST <= word {
+            return 2;
+        }
+    }
+    if place == 2 {
+        if areas::TWO_AT_MOST <= areas::four(links, piece) {
+            return 2;
+        }
+    }
+    4
+}
+
+// Finishes a piece as a group of its own.
+fn close_one(n: usize, work: &mut [u32], piece: usize)
+    requires { ⌜ (n ≤ 1024) × (6 * n ≤ length (now work)) × (piece < n) ⌝ }
+    ensures { λ _. ⌜ now (work .exit) ≡ closedOne n (now (work .entry)) piece ⌝ }
+{
+    put(work, piece, paths::FINISHED_MARK as usize);
+    put(work, 2 * n + piece, piece);
+}
+
+// Explores places, from where the search stands and of each piece that it pushes, until a piece has none left.
 fn explore(n: usize, states: &[u8], links: &[u16], class: u8, work: &mut [u32], a: At) -> At
     requires { ⌜ UnderWay n (now states) (now links) class (now work) a ⌝ }
     ensures { λ r. ⌜ Advanced n (now (states .entry)) (now (links .entry)) class (now (work .entry)) a (now (work .exit)) r ⌝ }
 {
-    let size = a.size;
-    let stand = a.stand;
-    let piece = a.piece;
+    let mut size = a.size;
     let mut blocks = a.blocks;
+    let mut stand = a.stand;
+    let mut piece = a.piece;
     let mut place = a.place;
-    if place == 1 {
-        if areas::ONE_AT_MOST <= areas::four(links, piece) {
-            return At {
-                size: size,
-                blocks: blocks,
-                stand: stand,
-                piece: piece,
-                place: 4,
-            };
-        }
-    }
-    while place < 4 {
+    let mut end = until(links, piece, place);
+    while place < end {
         let target = links[Store::LINKS * piece + place] as usize;
         place += 1;
         if target < n {
             if states[target] == class {
                 let mark = get(work, target);
-                if mark == 0 {
-                    put(work, n + piece, place);
-                    push(n, work, size, blocks, stand, target);
-                    return At {
-                        size: size + 1,
-                        blocks: blocks + 1,
-                        stand: size,
-                        piece: target,
-                        place: 0,
-                    };
-                }
-                if mark != paths::FINISHED_MARK as usize {
-                    blocks = merge(n, work, blocks, mark - 1);
+                if mark != 0 {
+                    if mark != paths::FINISHED_MARK as usize {
+                        blocks = merge(n, work, blocks, mark - 1);
+                    }
+                } else {
+                    if areas::four(links, target) == areas::FOUR_NONE {
+                        close_one(n, work, target);
+                    } else {
+                        put(work, n + piece, place);
+                        push(n, work, size, blocks, stand, target);
+                        stand = size;
+                        size += 1;
+                        blocks += 1;
+                        piece = target;
+                        place = 0;
+                        end = 4;
+                    }
                 }
             }
         }
@@ -109,7 +135,7 @@ fn explore(n: usize, states: &[u8], links: &[u16], class: u8, work: &mut [u32], 
         blocks: blocks,
         stand: stand,
         piece: piece,
-        place: place,
+        place: 4,
     }
 }
 
@@ -118,16 +144,16 @@ fn lowest(n: usize, work: &[u32], stand: usize, size: usize) -> usize
     requires { ⌜ Pieces n (now work) stand size ⌝ }
     ensures { λ r. ⌜ LowestOnStack (part n (3 * n) (now (work .entry))) stand size r ⌝ }
 {
-    let mut low = get(work, 3 * n + stand);
+    let mut low = work[3 * n + stand];
     let mut q = stand + 1;
     while q < size {
-        let piece = get(work, 3 * n + q);
+        let piece = work[3 * n + q];
         if piece < low {
             low = piece;
         }
         q += 1;
     }
-    low
+    low as usize
 }
 
 // Finishes the pieces on the stack from position `stand` up, with leader `low`.
@@ -174,8 +200,7 @@ fn finish(n: usize, states: &[u8], links: &[u16], class: u8, work: &mut [u32], a
     let parent = get(work, 5 * n + stand);
     if start == stand {
         if stand + 1 == size {
-            put(work, piece, paths::FINISHED_MARK as usize);
-            put(work, 2 * n + piece, piece);
+            close_one(n, work, piece);
             return resume(n, work, stand, blocks - 1, parent);
         }
         let low = lowest(n, work, stand, size);
@@ -185,17 +210,13 @@ fn finish(n: usize, states: &[u8], links: &[u16], class: u8, work: &mut [u32], a
     resume(n, work, size, blocks, parent)
 }
 
-// Explores places until a piece is pushed, or the piece at which the search stands is explored, and goes back from it.
+// Explores places until a piece has none left, and goes back from it.
 fn step(n: usize, states: &[u8], links: &[u16], class: u8, work: &mut [u32], a: At) -> At
     requires { ⌜ UnderWay n (now states) (now links) class (now work) a × OneWay (ground n (now states) (now links) class) ⌝ }
     ensures { λ r. ⌜ Progressed n (now (states .entry)) (now (links .entry)) class (now (work .entry)) a (now (work .exit)) r ⌝ }
 {
     let b = explore(n, states, links, class, work, a);
-    let place = b.place;
-    if place == 4 {
-        return finish(n, states, links, class, work, b);
-    }
-    b
+    finish(n, states, links, class, work, b)
 }
 
 // Searches from root, unless it is finished already: every piece of the class that root reaches is then finished, with its leader.
@@ -226,8 +247,8 @@ pub fn visit(n: usize, states: &[u8], links: &[u16], class: u8, work: &mut [u32]
     search(n, states, links, class, work, root);
 }
 
-// Finishes every piece of the class, and no other, each with its leader.
-pub fn visit_all(n: usize, states: &[u8], links: &[u16], class: u8, work: &mut [u32])
+// Finishes every piece of the class, and no other, each with its leader, where the marks and the next places are 0.
+fn visit_each(n: usize, states: &[u8], links: &[u16], class: u8, work: &mut [u32])
     requires { ⌜ Searchable n (now states) (now links) class (now work) ⌝ }
     ensures { λ _. ⌜ Grouped n (now (links .entry)) (Of (now (states .entry)) class) (now (work .entry)) (now (work .exit)) ⌝ }
 {
@@ -241,4 +262,13 @@ pub fn visit_all(n: usize, states: &[u8], links: &[u16], class: u8, work: &mut [
             }
         }
     }
+}
+
+// Finishes every piece of the class, and no other, each with its leader. Work may hold anything: the marks and the next places are set to 0 first.
+pub fn visit_all(n: usize, states: &[u8], links: &[u16], class: u8, work: &mut [u32])
+    requires { ⌜ Lent n (now states) (now links) (now work) × OneWay (ground n (now states) (now links) class) ⌝ }
+    ensures { λ _. ⌜ Grouped n (now (links .entry)) (Of (now (states .entry)) class) (now (work .entry)) (now (work .exit)) ⌝ }
+{
+    areas::fill_u32(work, 2 * n, 0);
+    visit_each(n, states, links, class, work);
 }

@@ -2,6 +2,7 @@
 ghost use Rattle.recounting.specs.Taken.{Taking, Taken};
 ghost use Rattle.recounting.specs.Summing.{Handing, Summed};
 ghost use Rattle.recounting.specs.Inner.{Uncounting, Uncounted};
+ghost use Rattle.recounting.specs.Apart.{Apart};
 ghost use Rattle.recounting.specs.Within.{Turnable};
 ghost use Rattle.recounting.specs.Turning.{Turned};
 use rules::Store;
@@ -31,6 +32,16 @@ fn hand_over(
     }
 }
 
+// 1 if t is another piece than q, else 0.
+fn apart(t: usize, q: usize) -> u32
+    ensures { λ r. ⌜ Apart t q r ⌝ }
+{
+    if t == q {
+        return 0;
+    }
+    1
+}
+
 // Takes the places by which q names another piece of its group off the group's count.
 fn uncount(n: usize, links: &[u16], leaders: &[u16], counts: &mut [u32], q: usize)
     requires { ⌜ Uncounting n (now links) (now leaders) (now counts) q ⌝ }
@@ -42,11 +53,9 @@ fn uncount(n: usize, links: &[u16], leaders: &[u16], counts: &mut [u32], q: usiz
     while i < end {
         let t = links[i] as usize;
         if t < n {
-            if t != q {
-                let l = leaders[t] as usize;
-                if l == own {
-                    counts[own] = counts[own] - 1;
-                }
+            let l = leaders[t] as usize;
+            if l == own {
+                counts[own] = counts[own] - apart(t, q);
             }
         }
         i += 1;

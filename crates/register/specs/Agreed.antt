@@ -1,15 +1,13 @@
--- Whether the holds are those of the register: each compared with what was added up, which is then taken back.
+-- Whether the holds are those of the register: each compared with what was added up.
 use Rattle.register.specs.Judged.{RightSaid}
 use mathlib.Core.Path.{_≡_, refl, sym, ap, ap₂, _∙_, subst}
 use mathlib.Core.Logic.{⊎-elim}
 use mathlib.Core.Bool.{Bool, true, false}
-use mathlib.Core.List.{List, _++_}
+use mathlib.Core.List.{List}
 use Prim.Native.Nat.{ℕ, zero, suc, _+_, _≤_, _<_}
 use native.Mathlib.Omega.{arith}
 use native.Mathlib.Nat.{le-refl}
 use lib.Dec.{eqb, eqb→eq, eqb-refl, T}
-use lib.ListN.{length, drop, replicate, length-replicate}
-use lib.Seq.{getD-drop, getD-append-add}
 use Rattle.rules.specs.Tests.{_&_}
 use Rattle.rules.specs.Lists.{_!_}
 use Rattle.rules.specs.Below.{every}
@@ -17,7 +15,8 @@ use Rattle.rules.specs.Register.{isRight, heldIn}
 use Rattle.laws.specs.Tests.{same-test}
 use Rattle.laws.specs.Below.{every→, →every}
 use Rattle.laws.specs.Numbers.{eq-or}
-use Rattle.areas.specs.Filled.{front-zeros}
+use Rattle.areas.specs.Filled.{Zeroed}
+use Rattle.tallies.specs.Adding.{LaterSame}
 
 -- ---- one piece
 
@@ -60,16 +59,6 @@ compared-said {holds} {sums} {p} {n} {faults} h g c =
     (λ t. →every (λ q. eqb (holds ! q) (sums ! q)) n (λ q u. eq→T (holds ! q) (sums ! q) (c .right (eqb→eq faults 0 t) q (omega arith))))
     (λ t. eq→T faults 0 (c .none (λ q u. eqb→eq (holds ! q) (sums ! q) (every→ (λ x. eqb (holds ! x) (sums ! x)) n t q (omega arith)))))
 
--- an entry that is not yet set to 0
-pub read-on : (d : List ℕ) (i : ℕ) {a : List ℕ} → a ≡ replicate i 0 ++ drop i d → a ! i ≡ d ! i
-read-on d i {a} e =
-    let x : i + 0 ≡ i = omega arith in
-    let z : length (replicate {A = ℕ} i 0) ≡ i = length-replicate i 0 in
-    ap (λ (l : List ℕ). l ! i) e
-    ∙ subst (λ (j : ℕ). (replicate i 0 ++ drop i d) ! j ≡ drop i d ! 0) (ap (λ (k : ℕ). k + 0) z ∙ x) (getD-append-add (replicate i 0) (drop i d) 0 0)
-    ∙ getD-drop i d 0 0
-    ∙ ap (λ (j : ℕ). d ! j) x
-
 -- ---- all pieces
 
 every-same : (f g : ℕ → Bool) (k : ℕ) → ((p : ℕ) → p < k → f p ≡ g p) → every f k ≡ every g k
@@ -77,21 +66,16 @@ unfolding every
 every-same f g zero e = refl
 every-same f g (suc k) e = ap₂ (λ (a b : Bool). a & b) (every-same f g k (λ p h. e p (omega arith))) (e k (le-refl (suc k)))
 
--- what was added up is taken back
-taken-back : (n : ℕ) (w₀ w₁ : List ℕ) {w : List ℕ} → n ≤ length w₀ → ((p : ℕ) → p < n → w₀ ! p ≡ 0) → drop n w₁ ≡ drop n w₀ → w ≡ replicate n 0 ++ drop n
-    w₁ → w ≡ w₀
-taken-back n w₀ w₁ h z e q = q ∙ ap (λ (t : List ℕ). replicate n 0 ++ t) e ∙ front-zeros n w₀ h z
+module _ {n : ℕ} {l w₀ w₁ : List ℕ} {b : Bool} (s : RightSaid n l w₀ w₁ b) where
+  pub right-agreed : (holds : List ℕ) {r : Bool} → b ≡ true → r ≡ every (λ p. eqb (holds ! p) (w₁ ! p)) n → r ≡ (isRight n l & every (λ p. eqb (holds ! p) (heldIn l p)) n)
+  right-agreed holds t e =
+      e
+      ∙ every-same (λ p. eqb (holds ! p) (w₁ ! p)) (λ p. eqb (holds ! p) (heldIn l p)) n (λ p u. ap (eqb (holds ! p)) (s .held t p u))
+      ∙ ap (λ (x : Bool). x & every (λ p. eqb (holds ! p) (heldIn l p)) n) (sym t ∙ s .says)
 
-module _ {n : ℕ} {l w₀ w₁ w : List ℕ} {b : Bool} (s : RightSaid n l w₀ w₁ b) (h : n ≤ length w₀) (z : (p : ℕ) → p < n → w₀ ! p ≡ 0)
-    (q : w ≡ replicate n 0 ++ drop n w₁) where
-  pub right-agreed : (holds : List ℕ) {r : Bool} → b ≡ true → r ≡ every (λ p. eqb (holds ! p) (w₁ ! p)) n
-      → (r ≡ (isRight n l & every (λ p. eqb (holds ! p) (heldIn l p)) n)) × (w ≡ w₀)
-  right-agreed holds t e = (
-    e
-        ∙ every-same (λ p. eqb (holds ! p) (w₁ ! p)) (λ p. eqb (holds ! p) (heldIn l p)) n (λ p u. ap (eqb (holds ! p)) (s .held t p u))
-        ∙ ap (λ (x : Bool). x & every (λ p. eqb (holds ! p) (heldIn l p)) n) (sym t ∙ s .says),
-    taken-back n w₀ w₁ h z (s .later) q,
-  )
+  pub wrong-agreed : (holds : List ℕ) → b ≡ false → false ≡ (isRight n l & every (λ p. eqb (holds ! p) (heldIn l p)) n)
+  wrong-agreed holds t = ap (λ (x : Bool). x & every (λ p. eqb (holds ! p) (heldIn l p)) n) (sym t ∙ s .says)
 
-  pub wrong-agreed : (holds : List ℕ) → b ≡ false → (false ≡ (isRight n l & every (λ p. eqb (holds ! p) (heldIn l p)) n)) × (w ≡ w₀)
-  wrong-agreed holds t = (ap (λ (x : Bool). x & every (λ p. eqb (holds ! p) (heldIn l p)) n) (sym t ∙ s .says), taken-back n w₀ w₁ h z (s .later) q)
+-- behind the sums work is as it was
+pub agreed-later : {n : ℕ} {l w w₀ w₁ : List ℕ} {b : Bool} → Zeroed n w w₀ → RightSaid n l w₀ w₁ b → LaterSame n w w₁
+agreed-later z s = record { size = s .size ∙ z .size; later = s .later ∙ z .later }

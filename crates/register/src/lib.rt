@@ -1,15 +1,15 @@
 // The register: 1,024 lines of seat, piece and number, the used ones first and ascending by seat, then piece.
 ghost use mathlib.Core.Path.{_≡_};
 ghost use mathlib.Core.Bool.{not};
-ghost use mathlib.Core.List.{_++_};
 ghost use Prim.Native.Nat.{ℕ, _+_, _*_, _≤_, _<_};
 ghost use lib.Dec.{eqb};
-ghost use lib.ListN.{length, drop, replicate};
+ghost use lib.ListN.{length, replicate};
 ghost use Rattle.rules.specs.Tests.{_&_};
 ghost use Rattle.rules.specs.Limits.{lines, entries};
 ghost use Rattle.rules.specs.Lists.{_!_};
 ghost use Rattle.rules.specs.Below.{every};
 ghost use Rattle.rules.specs.Register.{numberAt, order, Ordered, isRight, heldBy, heldIn, isBefore, hasLine, isFull, inserted, removed, oneMoreBy, oneLessBy};
+ghost use Rattle.tallies.specs.Adding.{LaterSame};
 ghost use Rattle.register.specs.Found.{Found, Used};
 ghost use Rattle.register.specs.Windows.{Ranked, UpTo, Among};
 ghost use Rattle.register.specs.Moved.{Movable, Lifted, Sunk};
@@ -360,29 +360,29 @@ fn hold_fault(holds: u16, added: u32) -> u32
     1
 }
 
-// Whether the holds are those added up, which become 0. The faults are counted and the pass is not left early: it compiles to vector instructions.
-fn compare(n: usize, holds: &[u16], sums: &mut [u32]) -> bool
+// Whether the holds are those added up. The faults are counted and the pass is not left early: it compiles to vector instructions.
+fn compare(n: usize, holds: &[u16], sums: &[u32]) -> bool
     requires { ⌜ (n ≤ 1024) × (length (now holds) ≡ n) × (n ≤ length (now sums)) ⌝ }
-    ensures { λ r. ⌜ (r ≡ every (λ p. eqb (now (holds .entry) ! p) (now (sums .entry) ! p)) n) × (now (sums .exit) ≡ replicate n 0 ++ drop n (now (sums .entry))) ⌝ }
+    ensures { λ r. ⌜ r ≡ every (λ p. eqb (now (holds .entry) ! p) (now (sums .entry) ! p)) n ⌝ }
 {
     let mut faults: u32 = 0;
     let mut p = 0;
     while p < n {
         faults = faults + hold_fault(holds[p], sums[p]);
-        sums[p] = 0;
         p += 1;
     }
     faults == 0
 }
 
-// Whether the register is right and every piece's holds are the sum over the lines that name it. The first n entries of work are 0, before and after.
+// Whether the register is right and every piece's holds are the sum over the lines that name it. The first n entries of work may hold anything, before and after.
 pub fn agrees(n: usize, register: &[u16], holds: &[u16], work: &mut [u32]) -> bool
-    requires { ⌜ (n ≤ 1024) × (length (now register) ≡ entries) × (length (now holds) ≡ n) × (n ≤ length (now work)) × ((p : ℕ) → p < n → now work ! p ≡ 0) ⌝ }
-    ensures { λ r. ⌜ (r ≡ (isRight n (now (register .entry)) & every (λ p. eqb (now (holds .entry) ! p) (heldIn (now (register .entry)) p)) n)) × (now (work .exit) ≡ now (work .entry)) ⌝ }
+    requires { ⌜ (n ≤ 1024) × (length (now register) ≡ entries) × (length (now holds) ≡ n) × (n ≤ length (now work)) ⌝ }
+    ensures { λ r. ⌜ (r ≡ (isRight n (now (register .entry)) & every (λ p. eqb (now (holds .entry) ! p) (heldIn (now (register .entry)) p)) n))
+        × LaterSame n (now (work .entry)) (now (work .exit)) ⌝ }
 {
+    areas::fill_u32(work, n, 0);
     if is_right(n, register, work) {
         return compare(n, holds, work);
     }
-    areas::fill_u32(work, n, 0);
     false
 }

@@ -5,7 +5,7 @@ use mathlib.Core.List.{List, _++_, append-nil}
 use Prim.Native.Nat.{ℕ, _+_, _-_, _*_, _≤_, _<_}
 use native.Mathlib.Omega.{arith}
 use lib.ListN.{length, take, drop, length-append, length-drop, List·getD-append}
-use lib.Seq.{getD-append-add, getD-take, getD-drop, length-take-le, take-all, drop-length, drop-drop, drop-at}
+use lib.Seq.{getD-append-add, getD-take, length-take-le, take-all, drop-length, drop-drop, drop-at}
 use borrow.Rule.Slice.PartMut.{midOf, putMid, post-is}
 use Rattle.rules.specs.Lists.{_!_}
 use Rattle.tallies.specs.Tally.{tally}
@@ -24,7 +24,6 @@ pub record CountGiven (n : ℕ) (states links leaders holds work : List ℕ) : T
   pub holds-n : length holds ≡ n
   pub work-n : 8 * n ≤ length work
   pub states-most : Below (λ q. states ! q ≤ 2) n
-  pub zeros : (l : ℕ) → l < n → work ! (6 * n + l) ≡ 0
 
 -- the seventh region has the counts of all labels
 pub record CountedUp (n : ℕ) (links holds leaders work : List ℕ) : Type 0 where
@@ -43,7 +42,7 @@ pub record UpTested (n : ℕ) (states links leaders holds work work′ : List �
   pub kept : OutsideKept n work work′
 
 -- behind the eighth region is behind two regions of what follows the sixth
-pub behind-regions : (n : ℕ) (l : List ℕ) → drop (8 * n) l ≡ drop (2 * n) (drop (6 * n) l)
+behind-regions : (n : ℕ) (l : List ℕ) → drop (8 * n) l ≡ drop (2 * n) (drop (6 * n) l)
 behind-regions n l = let e : 8 * n ≡ 6 * n + 2 * n = omega arith in ap (λ (m : ℕ). drop m l) e ∙ sym (drop-drop (2 * n) (6 * n) l)
 
 -- ---- the part of work from 6n on is lent, and comes back
@@ -67,7 +66,6 @@ module _ {n : ℕ} {states links leaders holds w : List ℕ} (g : CountGiven n s
         states-most = g .states-most;
         leaders-n = g .leaders-n;
         labelled = record { small = g .most; leaders-n = labels-n n leaders; counts-n = omega (arith, ap length e ∙ length-drop (6 * n) w, g .work-n) };
-        zeros = λ l h. ap (λ (x : List ℕ). x ! l) e ∙ getD-drop (6 * n) w l 0 ∙ g .zeros l h;
       }
 
   head : length (take (6 * n) w) ≡ 6 * n

@@ -1,11 +1,12 @@
 -- The holds of a piece and one link are counted for a label; the link is tested first.
-use mathlib.Core.Path.{_≡_, sym, _∙_}
+use mathlib.Core.Path.{_≡_, refl, sym, _∙_, ap, subst}
 use mathlib.Core.Bool.{Bool, true, false}
 use mathlib.Core.Logic.{inl}
 use mathlib.Core.List.{List}
 use Prim.Native.Nat.{ℕ, _+_, _≤_, _<_}
 use native.Mathlib.Omega.{arith}
 use lib.ListN.{length, set}
+use lib.Seq.{set-getD}
 use Rattle.rules.specs.Lists.{_!_}
 use Rattle.rules.specs.Limits.{none}
 use Rattle.tallies.specs.Adding.{LaterSame, later-none}
@@ -34,6 +35,13 @@ module _ {n : ℕ} {leaders holds counts : List ℕ} {p l : ℕ} (g : HoldGiven 
 
   pub hold-counted : HoldAdded n holds (labels n leaders) p counts (set counts l (counts ! l + holds ! p))
   hold-counted = hold-hit (g .countable .labelled) (g .below) (e ∙ sym (labels-at n leaders p (g .below))) hold-below
+
+-- it has none
+pub hold-none : {n : ℕ} {leaders holds counts : List ℕ} {p : ℕ} → HoldGiven n leaders holds counts p → holds ! p ≡ 0 → HoldAdded n holds (labels n leaders) p counts counts
+hold-none {n} {leaders} {holds} {counts} {p} g z =
+    let l : ℕ = labelBy n (leaders ! p) p in
+    let e : counts ! l + holds ! p ≡ counts ! l = omega arith in
+    subst (λ (c : List ℕ). HoldAdded n holds (labels n leaders) p counts c) (ap (λ (m : ℕ). set counts l m) e ∙ set-getD counts l 0) (hold-counted g refl)
 
 -- ---- one link
 

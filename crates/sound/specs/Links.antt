@@ -7,9 +7,10 @@ use Prim.Native.Nat.{ℕ, _+_, _*_, _≤_, _<_}
 use native.Mathlib.Omega.{arith}
 use lib.ListN.{length}
 use borrow.Author.Count.{below-more}
+use Rattle.rules.specs.Limits.{none}
 use Rattle.rules.specs.Lists.{_!_}
 use Rattle.laws.specs.Numbers.{lt-or}
-use Rattle.areas.specs.Four.{Four, fourNone, oneAtMost}
+use Rattle.areas.specs.Four.{Four, fourNone}
 use Rattle.tallies.specs.Adding.{Labelled, LaterSame, later-none, later-then, added-later, still}
 use Rattle.tallies.specs.Places.{LinkAdded}
 use Rattle.counts.specs.Added.{PlacesCounted, places-none, places-more, places-rest, places-fit}
@@ -107,11 +108,12 @@ module _ {n : ℕ} {states links leaders counts : List ℕ} {p : ℕ} (g : Links
     pub first-wrong : not r ≡ true → LinksTested n states links leaders p counts c false
     first-wrong e = next-wrong places-start (omega arith) o at-first e
 
-  -- the word says that the others are empty
-  pub tested-one : {c : List ℕ} {w : ℕ} → PlacesTested n states links leaders p 1 counts c → Four links p w → oneAtMost ≤ w → LinksTested n states links leaders p counts c true
-  tested-one t f l = record {
-    tells = tells-yes (λ j h. ⊎-elim (λ u. t .linked j u) (λ u. inl (f .rest l j h (omega arith))) (lt-or j 1));
-    counted = λ _. places-rest (g .labelled) (g .below) 3 refl (t .counted) (λ k u v. f .rest l k v (omega arith));
+  -- the links left are empty
+  pub tested-rest : {c : List ℕ} {j : ℕ} (m : ℕ) → j + m ≡ 4 → PlacesTested n states links leaders p j counts c → ((k : ℕ) → j ≤ k → k < 4 → links ! (4 * p + k) ≡ none)
+      → LinksTested n states links leaders p counts c true
+  tested-rest {j = j} m e t h = record {
+    tells = tells-yes (λ k u. ⊎-elim (λ v. t .linked k v) (λ v. inl (h k v u)) (lt-or k j));
+    counted = λ _. places-rest (g .labelled) (g .below) m e (t .counted) h;
     kept = added-later (t .counted .added);
   }
 

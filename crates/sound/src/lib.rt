@@ -7,8 +7,7 @@ ghost use lib.ListN.{length};
 ghost use Rattle.rules.specs.Tests.{_&_};
 ghost use Rattle.rules.specs.Tables.{isSound, intoRight, baseOf, tablesOf};
 ghost use Rattle.rules.specs.Words.{Sized};
-ghost use Rattle.rules.specs.Calls.{clear};
-ghost use Rattle.areas.specs.Filled.{Clear};
+ghost use Rattle.tallies.specs.Adding.{LaterSame};
 ghost use Rattle.counts.specs.Added.{HoldAdded};
 ghost use Rattle.sound.specs.Truthful.{Truthful, Below};
 ghost use Rattle.sound.specs.Faults.{Faults};
@@ -20,7 +19,6 @@ ghost use Rattle.sound.specs.Tested.{TablesGiven, AllTested};
 ghost use Rattle.sound.specs.Leaders.{Led, LeaderFound};
 ghost use Rattle.sound.specs.Counted.{CountGiven, UpTested};
 ghost use Rattle.sound.specs.Compared.{countedOf, otherOf, Compared, CountFound};
-ghost use Rattle.sound.specs.Judged.{Judged};
 use rules::Store;
 
 // 1 unless the holds of a piece of this state are well: 0 unless frozen, and at most 1,000.
@@ -67,13 +65,15 @@ fn label(n: usize, leader: u16, p: usize) -> usize
     p
 }
 
-// Adds the holds of a piece to the count of its label.
+// Adds the holds of a piece, if it has any, to the count of its label.
 fn add_hold(n: usize, leaders: &[u16], holds: &[u16], counts: &mut [u32], p: usize)
     requires { ⌜ HoldGiven n (now leaders) (now holds) (now counts) p ⌝ }
     ensures { λ _. ⌜ HoldAdded n (now (holds .entry)) (labels n (now (leaders .entry))) p (now (counts .entry)) (now (counts .exit)) ⌝ }
 {
-    let l = label(n, leaders[p], p);
-    counts[l] = counts[l] + holds[p] as u32;
+    if holds[p] != 0 {
+        let l = label(n, leaders[p], p);
+        counts[l] = counts[l] + holds[p] as u32;
+    }
 }
 
 // Whether a piece of this state, not free, may name the target: none, from a draft a live piece, from a frozen piece a frozen one.
@@ -90,11 +90,11 @@ fn link_well(
     requires { ⌜ LinkGiven n (now states) (now leaders) (now counts) state ⌝ }
     ensures { λ r. ⌜ LinkTested n (now (states .entry)) (now (leaders .entry)) state own target (now (counts .entry)) (now (counts .exit)) r ⌝ }
 {
-    if target == Store::NONE {
-        return true;
-    }
     let t = target as usize;
     if n <= t {
+        if target == Store::NONE {
+            return true;
+        }
         return false;
     }
     if states[t] < state {
@@ -154,6 +154,9 @@ fn links_well(
     ) {
         return false;
     }
+    if areas::TWO_AT_MOST <= word {
+        return true;
+    }
     if !link_well(
         n,
         states,
@@ -176,7 +179,7 @@ fn links_well(
     )
 }
 
-// Whether the links of all pieces are well. If they are, their holds and their links are counted, into entries that are 0.
+// Whether the links of all pieces are well. If they are, their holds and their links are counted, into entries that are set to 0 first.
 fn all_linked(
     n: usize,
     states: &[u8],
@@ -188,6 +191,7 @@ fn all_linked(
     requires { ⌜ TablesGiven n (now states) (now links) (now leaders) (now holds) (now counts) ⌝ }
     ensures { λ r. ⌜ AllTested n (now (states .entry)) (now (links .entry)) (now (leaders .entry)) (now (holds .entry)) (now (counts .entry)) (now (counts .exit)) r ⌝ }
 {
+    areas::fill_u32(counts, n, 0);
     let mut p = 0;
     while p < n {
         add_hold(n, leaders, holds, counts, p);
@@ -306,8 +310,8 @@ fn counts_found(n: usize, leaders: &[u16], counts: &[u32], into: &[u16], work: &
     faults == 0
 }
 
-// Whether the tables are sound and the links into each draft right, over work whose first 8N entries are 0.
-fn judge(
+// Whether the tables are sound and the links into each draft right. The first 8N entries of work may hold anything, before and after; later ones are unchanged.
+pub fn is_sound(
     n: usize,
     states: &[u8],
     links: &[u16],
@@ -317,9 +321,10 @@ fn judge(
     into: &[u16],
     work: &mut [u32],
 ) -> bool
-    requires { ⌜ Sized (tablesOf n (now states) (now links) (now leaders) (now holds) (now counts)) × (length (now into) ≡ n) × Clear n (now work) ⌝ }
-    ensures { λ r. ⌜ Judged (tablesOf n (now (states .entry)) (now (links .entry)) (now (leaders .entry)) (now (holds .entry)) (now (counts .entry))) (now (into .entry))
-        (now (work .entry)) (now (work .exit)) r ⌝ }
+    requires { ⌜ Sized (tablesOf n (now states) (now links) (now leaders) (now holds) (now counts)) × (length (now into) ≡ n) × (8 * n ≤ length (now work)) ⌝ }
+    ensures { λ r. ⌜ (r ≡ (isSound (tablesOf n (now (states .entry)) (now (links .entry)) (now (leaders .entry)) (now (holds .entry)) (now (counts .entry))) &
+        intoRight (baseOf n (now (states .entry)) (now (links .entry)) (now (holds .entry))) (now (into .entry)))) ×
+        LaterSame (8 * n) (now (work .entry)) (now (work .exit)) ⌝ }
 {
     if !all_held(n, states, holds) {
         return false;
@@ -332,26 +337,4 @@ fn judge(
         return false;
     }
     counts_found(n, leaders, counts, into, work)
-}
-
-// Whether the tables are sound and the links into each draft right. Of work the first 8N entries are 0 on return and later ones unchanged.
-pub fn is_sound(
-    n: usize,
-    states: &[u8],
-    links: &[u16],
-    leaders: &[u16],
-    holds: &[u16],
-    counts: &[u32],
-    into: &[u16],
-    work: &mut [u32],
-) -> bool
-    requires { ⌜ (1 ≤ n) × Sized (tablesOf n (now states) (now links) (now leaders) (now holds) (now counts)) × (length (now into) ≡ n) × (8 * n ≤ length (now work)) ⌝ }
-    ensures { λ r. ⌜ (r ≡ (isSound (tablesOf n (now (states .entry)) (now (links .entry)) (now (leaders .entry)) (now (holds .entry)) (now (counts .entry))) &
-        intoRight (baseOf n (now (states .entry)) (now (links .entry)) (now (holds .entry))) (now (into .entry)))) ×
-        (now (work .exit) ≡ clear n (now (work .entry))) ⌝ }
-{
-    areas::fill_u32(work, 8 * n, 0);
-    let sound = judge(n, states, links, leaders, holds, counts, into, work);
-    areas::fill_u32(work, 8 * n, 0);
-    sound
 }

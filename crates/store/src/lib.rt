@@ -1,4 +1,4 @@
-// The nine public calls: sizes, soundness, then the work.
+// The nine public calls: sizes, soundness, then the work; a call that is lent work clears it on the way out, unless a size is wrong.
 ghost use mathlib.Core.List.{[]};
 ghost use Rattle.rules.specs.Tables.{storeOf};
 ghost use Rattle.rules.specs.Calls.{start, does, check, areasOf, answered, saw, checked, outcome, Promise};
@@ -72,8 +72,15 @@ pub fn new(
         work,
     ) {
         Entry::Short => Answer::Refused(Refusal::Size),
-        Entry::Flawed => Answer::Refused(Refusal::Unsound),
-        Entry::Sound => giving::new(n, states, 0),
+        Entry::Flawed => {
+            entering::leave(n, work);
+            Answer::Refused(Refusal::Unsound)
+        }
+        Entry::Sound => {
+            let answer = giving::new(n, states, 0);
+            entering::leave(n, work);
+            answer
+        }
     }
 }
 
@@ -112,20 +119,27 @@ pub fn set(
         work,
     ) {
         Entry::Short => Answer::Refused(Refusal::Size),
-        Entry::Flawed => Answer::Refused(Refusal::Unsound),
-        Entry::Sound => setting::set_link(
-            n,
-            states,
-            links,
-            leaders,
-            holds,
-            counts,
-            into,
-            list,
-            p,
-            k,
-            t,
-        ),
+        Entry::Flawed => {
+            entering::leave(n, work);
+            Answer::Refused(Refusal::Unsound)
+        }
+        Entry::Sound => {
+            let answer = setting::set_link(
+                n,
+                states,
+                links,
+                leaders,
+                holds,
+                counts,
+                into,
+                list,
+                p,
+                k,
+                t,
+            );
+            entering::leave(n, work);
+            answer
+        }
     }
 }
 
@@ -163,7 +177,10 @@ pub fn freeze(
         work,
     ) {
         Entry::Short => Answer::Refused(Refusal::Size),
-        Entry::Flawed => Answer::Refused(Refusal::Unsound),
+        Entry::Flawed => {
+            entering::leave(n, work);
+            Answer::Refused(Refusal::Unsound)
+        }
         Entry::Sound => {
             let answer = freezing::freeze(
                 n,
@@ -178,7 +195,7 @@ pub fn freeze(
                 p,
                 seat,
             );
-            areas::fill_u32(work, 8 * n, 0);
+            entering::leave(n, work);
             answer
         }
     }
@@ -218,8 +235,15 @@ pub fn acquire(
         work,
     ) {
         Entry::Short => Answer::Refused(Refusal::Size),
-        Entry::Flawed => Answer::Refused(Refusal::Unsound),
-        Entry::Sound => holding::acquire(n, states, leaders, holds, counts, register, p, seat),
+        Entry::Flawed => {
+            entering::leave(n, work);
+            Answer::Refused(Refusal::Unsound)
+        }
+        Entry::Sound => {
+            let answer = holding::acquire(n, states, leaders, holds, counts, register, p, seat);
+            entering::leave(n, work);
+            answer
+        }
     }
 }
 
@@ -257,19 +281,26 @@ pub fn release(
         work,
     ) {
         Entry::Short => Answer::Refused(Refusal::Size),
-        Entry::Flawed => Answer::Refused(Refusal::Unsound),
-        Entry::Sound => holding::release(
-            n,
-            states,
-            links,
-            leaders,
-            holds,
-            counts,
-            register,
-            list,
-            p,
-            seat,
-        ),
+        Entry::Flawed => {
+            entering::leave(n, work);
+            Answer::Refused(Refusal::Unsound)
+        }
+        Entry::Sound => {
+            let answer = holding::release(
+                n,
+                states,
+                links,
+                leaders,
+                holds,
+                counts,
+                register,
+                list,
+                p,
+                seat,
+            );
+            entering::leave(n, work);
+            answer
+        }
     }
 }
 
@@ -306,8 +337,15 @@ pub fn bin(
         work,
     ) {
         Entry::Short => Answer::Refused(Refusal::Size),
-        Entry::Flawed => Answer::Refused(Refusal::Unsound),
-        Entry::Sound => binning::bin(n, states, links, leaders, holds, counts, into, list, p),
+        Entry::Flawed => {
+            entering::leave(n, work);
+            Answer::Refused(Refusal::Unsound)
+        }
+        Entry::Sound => {
+            let answer = binning::bin(n, states, links, leaders, holds, counts, into, list, p);
+            entering::leave(n, work);
+            answer
+        }
     }
 }
 
@@ -343,8 +381,15 @@ pub fn look(
         work,
     ) {
         Entry::Short => Seen::Unseen(Refusal::Size),
-        Entry::Flawed => Seen::Unseen(Refusal::Unsound),
-        Entry::Sound => looking::look(n, states, links, leaders, holds, counts, p),
+        Entry::Flawed => {
+            entering::leave(n, work);
+            Seen::Unseen(Refusal::Unsound)
+        }
+        Entry::Sound => {
+            let seen = looking::look(n, states, links, leaders, holds, counts, p);
+            entering::leave(n, work);
+            seen
+        }
     }
 }
 
@@ -380,7 +425,13 @@ pub fn check(
         work,
     ) {
         Entry::Short => Checked::Unchecked(Refusal::Size),
-        Entry::Flawed => Checked::No,
-        Entry::Sound => Checked::Yes,
+        Entry::Flawed => {
+            entering::leave(n, work);
+            Checked::No
+        }
+        Entry::Sound => {
+            entering::leave(n, work);
+            Checked::Yes
+        }
     }
 }

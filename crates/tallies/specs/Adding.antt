@@ -1,11 +1,11 @@
 -- Counting up: what the tables are, what is counted, and what is added on the way.
-use mathlib.Core.Path.{_≡_, refl, ap, _∙_}
+use mathlib.Core.Path.{_≡_, refl, sym, ap, _∙_}
 use mathlib.Core.Logic.{⊎-elim}
 use mathlib.Core.List.{List}
-use Prim.Native.Nat.{ℕ, _+_, _≤_, _<_}
+use Prim.Native.Nat.{ℕ, _+_, _-_, _≤_, _<_}
 use native.Mathlib.Omega.{arith}
 use lib.ListN.{length, set, length-set, drop}
-use lib.Seq.{drop-set-lt}
+use lib.Seq.{drop-set-lt, drop-drop}
 use Rattle.rules.specs.Lists.{_!_}
 use Rattle.rules.specs.Limits.{none}
 use Rattle.laws.specs.Numbers.{set-cases}
@@ -38,6 +38,13 @@ later-none = record { size = refl; later = refl }
 
 pub later-then : {n : ℕ} {a b c : List ℕ} → LaterSame n a b → LaterSame n b c → LaterSame n a c
 later-then x y = record { size = y .size ∙ x .size; later = y .later ∙ x .later }
+
+-- so are those from any later entry on
+pub later-on : {n : ℕ} (m : ℕ) {c c′ : List ℕ} → n ≤ m → LaterSame n c c′ → LaterSame m c c′
+later-on {n} m {c} {c′} h x = record { size = x .size; later = behind c′ ∙ ap (drop (m - n)) (x .later) ∙ sym (behind c) }
+  where
+    behind : (l : List ℕ) → drop m l ≡ drop (m - n) (drop n l)
+    behind l = let e : m ≡ n + (m - n) = omega arith in ap (λ (k : ℕ). drop k l) e ∙ sym (drop-drop (m - n) n l)
 
 -- each count below n has f of its label more
 pub record Added (n : ℕ) (f : ℕ → ℕ) (c c′ : List ℕ) : Type 0 where

@@ -1,6 +1,7 @@
 -- `entering::enter` judges the sizes, then the tables, then the register: each return cites the law of its case. Assumes nothing.
+use mathlib.Core.Path.{_∙_}
 use native.Mathlib.Omega.{arith}
-use Rattle.entering.specs.Judged.{sizes, fitted, agreeing-of, short-size, short-list, short-work, judged-flawed, judged-sound, judged-apart}
+use Rattle.entering.specs.Judged.{sizes, fitted, short-size, short-list, short-work, judged-flawed, judged-sound, judged-apart}
 use Rattle.entering.proofs.enter.Statement.{statement}
 use Rattle.entering.proofs.enter.Tie as tie
 
@@ -10,13 +11,37 @@ mul-if3 c = omega (arith, sizes (c .before .if1 .left) (c .before .before .sized
 is-sound-requires : tie.Need-is-sound-requires
 is-sound-requires c κs =
     let z = sizes (c .before .before .before .if1 .left) (c .before .before .before .before .sized .ensures) in
-    (z .0, z .1 .tables, z .1 .into, c .before .if3 .left)
+    (z .1 .tables, z .1 .into, c .before .if3 .left)
 
 agrees-requires : tie.Need-agrees-requires
 agrees-requires c κs =
-    let past : tie.Else3 = search in
-    let judged : tie.After-is-sound = search in
-    agreeing-of (fitted (past .before .before .if1 .left) (past .before .before .before .sized .ensures) (past .before .if2 .left) (past .if3 .left)) (judged .is-sound .ensures .1)
+    let judged = c .before .before .before .before in
+    let past = judged .before .before in
+    let z = sizes (past .before .before .if1 .left) (past .before .before .before .sized .ensures) .1 in
+    (z .tables .base .most, z .register, z .tables .base .holds, omega (arith, past .if3 .left, judged .is-sound .ensures .1 .size))
+
+returns-4 : tie.Need-returns-4
+returns-4 c =
+    let judged = c .before .before .before in
+    let past = judged .before .before in
+    let all = fitted (past .before .before .if1 .left) (past .before .before .before .sized .ensures) (past .before .if2 .left) (past .if3 .left) in
+    judged-flawed all (c .if4 .taken) (judged .is-sound .ensures .0) (judged .is-sound .ensures .1)
+
+returns-5 : tie.Need-returns-5
+returns-5 c =
+    let agreed = c .before .before .before in
+    let judged = agreed .before .before .before .before .before in
+    let past = judged .before .before in
+    let all = fitted (past .before .before .if1 .left) (past .before .before .before .sized .ensures) (past .before .if2 .left) (past .if3 .left) in
+    judged-sound all (agreed .before .before .if4 .left) (judged .is-sound .ensures .0) (agreed .agrees .ensures .0) (judged .is-sound .ensures .1) (agreed .agrees .ensures .1) (c .if5 .taken)
+
+returns-6 : tie.Need-returns-6
+returns-6 c =
+    let agreed = c .before .before .before in
+    let judged = agreed .before .before .before .before .before in
+    let past = judged .before .before in
+    let all = fitted (past .before .before .if1 .left) (past .before .before .before .sized .ensures) (past .before .if2 .left) (past .if3 .left) in
+    judged-apart all (agreed .before .before .if4 .left) (judged .is-sound .ensures .0) (agreed .agrees .ensures .0) (judged .is-sound .ensures .1) (agreed .agrees .ensures .1) (c .if5 .left)
 
 pub enter-spec : {M : Type 1} → statement M
 enter-spec =
@@ -28,10 +53,10 @@ enter-spec =
     mul-if3
     (λ c. search short-work)
     is-sound-requires
-    (λ c. search depth 0)
-    (λ c. search (judged-flawed, fitted))
+    (λ c. c .before .before .before .is-sound .ensures .1 .size)
+    returns-4
     agrees-requires
-    (λ c. search depth 0)
-    (λ c. search (judged-sound, fitted))
-    (λ c. search depth 0)
-    (λ c. search (judged-apart, fitted)))
+    (λ c. c .before .before .before .agrees .ensures .1 .size ∙ c .before .before .before .before .before .before .before .before .is-sound .ensures .1 .size)
+    returns-5
+    (λ c. c .before .before .before .agrees .ensures .1 .size ∙ c .before .before .before .before .before .before .before .before .is-sound .ensures .1 .size)
+    returns-6)

@@ -1,5 +1,5 @@
 -- `groups::finish` meets its contract: it pops the last block, or goes back to the parent. Assumes nothing.
-use mathlib.Core.Path.{refl, _∙_}
+use mathlib.Core.Path.{refl}
 use native.Mathlib.Omega.{arith}
 use borrow.Author.Needs.{needs}
 use Rattle.groups.specs.Explore.{stand-lt, size-n, blocks-some, blocks-n}
@@ -51,38 +51,24 @@ add-if2 c =
     let going = c .before .before .before .before .before .before .before .before .before .before .before .before .pre .going in
     omega (arith, stand-lt going, size-n going, going .lent .most)
 
-cast-put : tie.Need-cast-put
-cast-put c = search needs
-
-put-requires-2 : tie.Need-put-requires-2
-put-requires-2 c κs = search needs
-
-mul-put : tie.Need-mul-put
-mul-put c = search needs
-
-add-put-2 : tie.Need-add-put-2
-add-put-2 c = search needs
-
-put-requires-3 : tie.Need-put-requires-3
-put-requires-3 c κs = search needs
+close-one-requires : tie.Need-close-one-requires
+close-one-requires c κs = search needs
 
 sub-resume : tie.Need-sub-resume
 sub-resume c =
-    let parent-read = c .before .before .before .before .before .before .before .before .before .before .before in
+    let parent-read = c .before .before .before .before .before .before .before in
     blocks-some (parent-read .before .before .before .before .before .before .before .before .before .before .before .pre .going)
 
 resume-requires : tie.Need-resume-requires
 resume-requires c κs =
     let led = c .before .before .before in
-    let marked = led .before .before .before .before in
-    let alone = marked .before .before in
+    let alone = led .before .before in
     let parent-read = alone .before .before in
     let stored = parent-read .before .before .before .before .before .before in
     let start = stored .before .before .before .before .before in
     let given = start .pre in
     let place = stored .put .ensures in
-    resumable given place (parent-read .get2 .ensures) (one-closed given place (alone .if2 .taken) (marked .put2 .ensures) (led .put3 .ensures) .stack-same)
-    (led .put3 .kept .0 ∙ marked .put2 .kept .0)
+    resumable given place (parent-read .get2 .ensures) (one-closed given place (alone .if2 .taken) refl (led .close-one .ensures) .stack-same) (led .close-one .kept .1 .0)
 
 same-length : tie.Need-same-length
 same-length c = search needs
@@ -90,15 +76,14 @@ same-length c = search needs
 returns : tie.Need-returns
 returns c =
     let led = c .before .before .before .before in
-    let marked = led .before .before .before .before in
-    let alone = marked .before .before in
+    let alone = led .before .before in
     let starts = alone .before in
     let parent-read = starts .before in
     let start-read = parent-read .before .before in
     let stored = start-read .before .before .before .before in
     let start = stored .before .before .before .before .before in
     step-one (start .pre) (stored .put .ensures) (parent-read .get2 .ensures) (start-read .get .ensures) (starts .if1 .taken) (alone .if2 .taken)
-    (marked .put2 .ensures) (led .put3 .ensures) (c .resume .ensures)
+    refl (led .close-one .ensures) (c .resume .ensures)
 
 lowest-requires : tie.Need-lowest-requires
 lowest-requires c κs =
@@ -175,11 +160,7 @@ finish-spec =
     add-get-2
     get-requires-2
     add-if2
-    cast-put
-    put-requires-2
-    mul-put
-    add-put-2
-    put-requires-3
+    close-one-requires
     sub-resume
     resume-requires
     same-length

@@ -1,5 +1,5 @@
 -- `groups::lowest` meets its contract: `low` is the lowest of the positions passed. Assumes nothing.
-use mathlib.Core.Path.{subst}
+use mathlib.Core.Path.{refl, subst}
 use mathlib.Core.Logic.{⊎-elim}
 use Prim.Native.Nat.{ℕ, _≤_, _<_, _*_, _-_}
 use native.Mathlib.Omega.{arith}
@@ -15,29 +15,37 @@ Inv-loop n work stand size low₀ q₀ low q = (stand < q) × (q ≤ size) × Lo
 abbrev μ-loop : tie.MeasureT-loop
 μ-loop n work stand size low₀ q₀ low q = size - q
 
-mul-get : tie.Need-mul-get Inv-loop μ-loop
-mul-get c = omega arith
+mul-low : tie.Need-mul-low Inv-loop μ-loop
+mul-low c = omega arith
 
-add-get : tie.Need-add-get Inv-loop μ-loop
-add-get c = omega arith
+add-low : tie.Need-add-low Inv-loop μ-loop
+add-low c = omega arith
 
-get-requires : tie.Need-get-requires Inv-loop μ-loop
-get-requires c κs = omega arith
+mul-low-2 : tie.Need-mul-low-2 Inv-loop μ-loop
+mul-low-2 c = omega arith
+
+shared-slice-read-low : tie.Need-shared-slice-read-low Inv-loop μ-loop
+shared-slice-read-low c = omega arith
 
 add-q : tie.Need-add-q Inv-loop μ-loop
 add-q c = omega arith
 
 loop-holds : tie.Need-loop-holds Inv-loop μ-loop
-loop-holds c = (omega arith, omega arith, low-first (piece-at (c .before .before .pre) (c .before .before .pre .stand-lt) (c .get .ensures)))
+loop-holds c =
+    let given = c .before .pre in
+    (omega arith, omega arith, low-first (piece-at given (given .stand-lt) refl))
 
-mul-get-2 : tie.Need-mul-get-2 Inv-loop μ-loop
-mul-get-2 c = omega arith
+mul-piece : tie.Need-mul-piece Inv-loop μ-loop
+mul-piece c = omega arith
 
-add-get-2 : tie.Need-add-get-2 Inv-loop μ-loop
-add-get-2 c = omega arith
+add-piece : tie.Need-add-piece Inv-loop μ-loop
+add-piece c = omega arith
 
-get-requires-2 : tie.Need-get-requires-2 Inv-loop μ-loop
-get-requires-2 c κs = omega arith
+mul-piece-2 : tie.Need-mul-piece-2 Inv-loop μ-loop
+mul-piece-2 c = omega arith
+
+shared-slice-read-piece : tie.Need-shared-slice-read-piece Inv-loop μ-loop
+shared-slice-read-piece c = omega arith
 
 add-q-2 : tie.Need-add-q-2 Inv-loop μ-loop
 add-q-2 c = omega arith
@@ -49,17 +57,24 @@ loop-again : tie.Need-loop-again Inv-loop μ-loop
 loop-again c =
     let turn = c .before .before in
     let looped = turn .before in
-    let start = looped .before .before .before in
+    let start = looped .before .before in
     let so-far = looped .loop .inv .2 in
-    let piece = piece-at (start .pre) (turn .loop-test .taken) (c .before .get2 .ensures) in (
+    let piece = piece-at (start .pre) (turn .loop-test .taken) refl in (
       omega arith,
       omega arith,
       ⊎-elim (λ w. low-take so-far piece (w .0 .taken) (w .1)) (λ w. low-keep so-far piece (w .0 .left) (w .1)) (c .if1 .came),
     )
 
+cast-result : tie.Need-cast-result Inv-loop μ-loop
+cast-result c =
+    let looped = c .before in
+    let start = looped .before .before in
+    let low = looped .loop .inv .2 in
+    omega (arith, low .is, start .pre .piece (low .place) (omega (arith, low .to-size)), start .pre .most)
+
 returns : tie.Need-returns Inv-loop μ-loop
 returns c =
-    let a = c .before .before .before .before .args in
+    let a = c .before .before .before .args in
     let loop = c .before .loop in
     subst (λ (m : ℕ). LowestOnStack (part (a .n) (3 * a .n) (a .work .now)) (a .stand) m (loop .low)) (omega arith) (loop .inv .2)
 
@@ -69,15 +84,18 @@ lowest-spec =
     (tie.spec
     Inv-loop
     μ-loop
-    mul-get
-    add-get
-    get-requires
+    mul-low
+    add-low
+    mul-low-2
+    shared-slice-read-low
     add-q
     loop-holds
-    mul-get-2
-    add-get-2
-    get-requires-2
+    mul-piece
+    add-piece
+    mul-piece-2
+    shared-slice-read-piece
     add-q-2
     loop-less
     loop-again
+    cast-result
     returns)

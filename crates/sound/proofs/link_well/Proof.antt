@@ -6,21 +6,19 @@ use Rattle.sound.proofs.link_well.Statement.{statement}
 use Rattle.sound.proofs.link_well.Tie as tie
 
 returns : tie.Need-returns
-returns c =
-    let start = c .before .before .before .before in
-    tested-none (start .pre) (c .if1 .taken)
+returns c = tested-none (c .before .before .before .before .before .pre) (c .if2 .taken)
 
 returns-2 : tie.Need-returns-2
-returns-2 c = tested-beyond (c .before .if1 .left) (c .if2 .taken)
+returns-2 c = tested-beyond (c .if2 .left) (c .before .if1 .taken)
 
 shared-slice-read-if3 : tie.Need-shared-slice-read-if3
 shared-slice-read-if3 c = search needs
 
 returns-3 : tie.Need-returns-3
 returns-3 c =
-    let some = c .before .before .before in
-    let start = some .before .before .before .before in
-    tested-low (some .if1 .left) (omega (arith, c .if3 .taken, start .pre .some))
+    let below = c .before .before in
+    let start = below .before .before .before .before in
+    tested-low (λ e. omega (arith, below .if1 .left, start .pre .countable .labelled .small)) (omega (arith, c .if3 .taken, start .pre .some))
 
 mul-label : tie.Need-mul-label
 mul-label c = search needs
@@ -33,55 +31,58 @@ label-requires c κs = search needs
 
 returns-4 : tie.Need-returns-4
 returns-4 c =
-    let live = c .before .before .before in
+    let named = c .before in
+    let live = named .before .before in
     let below = live .before .before in
-    let start = below .before .before .before .before .before in
-    tested-own (start .pre) (below .if2 .left) (c .before .label .ensures) (omega (arith, live .if3 .left)) (c .if4 .taken)
+    let start = below .before .before .before .before in
+    tested-own (start .pre) (below .if1 .left) (named .label .ensures) (omega (arith, live .if3 .left)) (c .if4 .taken)
 
 mul-counts : tie.Need-mul-counts
 mul-counts c =
-    let below = c .before .before .before .before .before in
-    let start = below .before .before .before .before .before in
-    omega (arith, link-below (start .pre) (below .if2 .left) (c .before .label .ensures), start .pre .countable .labelled .small)
+    let named = c .before in
+    let below = named .before .before .before .before in
+    let start = below .before .before .before .before in
+    omega (arith, link-below (start .pre) (below .if1 .left) (named .label .ensures), start .pre .countable .labelled .small)
 
 slice-read-counts : tie.Need-slice-read-counts
 slice-read-counts c =
     let named = c .before .before in
     let below = named .before .before .before .before in
-    let start = below .before .before .before .before .before in
-    omega (arith, link-below (start .pre) (below .if2 .left) (named .label .ensures), start .pre .countable .labelled .counts-n)
+    let start = below .before .before .before .before in
+    omega (arith, link-below (start .pre) (below .if1 .left) (named .label .ensures), start .pre .countable .labelled .counts-n)
 
 add-counts : tie.Need-add-counts
 add-counts c =
     let named = c .before .before in
     let below = named .before .before .before .before in
-    let start = below .before .before .before .before .before in
-    omega (arith, link-room (start .pre) (below .if2 .left) (named .label .ensures))
+    let start = below .before .before .before .before in
+    omega (arith, link-room (start .pre) (below .if1 .left) (named .label .ensures))
 
 mul-counts-2 : tie.Need-mul-counts-2
 mul-counts-2 c =
     let named = c .before .before in
     let below = named .before .before .before .before in
-    let start = below .before .before .before .before .before in
-    omega (arith, link-below (start .pre) (below .if2 .left) (named .label .ensures), start .pre .countable .labelled .small)
+    let start = below .before .before .before .before in
+    omega (arith, link-below (start .pre) (below .if1 .left) (named .label .ensures), start .pre .countable .labelled .small)
 
 slice-write-counts : tie.Need-slice-write-counts
 slice-write-counts c =
     let named = c .before .before in
     let below = named .before .before .before .before in
-    let start = below .before .before .before .before .before in
-    omega (arith, link-below (start .pre) (below .if2 .left) (named .label .ensures), start .pre .countable .labelled .counts-n)
+    let start = below .before .before .before .before in
+    omega (arith, link-below (start .pre) (below .if1 .left) (named .label .ensures), start .pre .countable .labelled .counts-n)
 
 same-length : tie.Need-same-length
 same-length c = search needs
 
 returns-5 : tie.Need-returns-5
 returns-5 c =
-    let named = c .before .before in
+    let other = c .before in
+    let named = other .before in
     let live = named .before .before in
     let below = live .before .before in
-    let start = below .before .before .before .before .before in
-    tested-other (start .pre) (below .if2 .left) (named .label .ensures) (omega (arith, live .if3 .left)) (c .before .if4 .left)
+    let start = below .before .before .before .before in
+    tested-other (start .pre) (below .if1 .left) (named .label .ensures) (omega (arith, live .if3 .left)) (other .if4 .left)
 
 pub link-well-spec : {M : Type 1} → statement M
 link-well-spec =

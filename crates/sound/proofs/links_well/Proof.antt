@@ -1,7 +1,8 @@
 -- `sound::links_well` meets its contract: the word tells which links are empty, and the others are tested and counted. Assumes nothing.
+use mathlib.Core.Path.{refl}
 use native.Mathlib.Omega.{arith}
 use borrow.Author.Needs.{needs}
-use Rattle.sound.specs.Links.{tested-empty, tested-free, places-start, next-given, next-well, next-wrong, first-well, first-wrong, tested-one, tested-four}
+use Rattle.sound.specs.Links.{tested-empty, tested-free, places-start, next-given, next-well, next-wrong, first-well, first-wrong, tested-rest, tested-four}
 use Rattle.sound.proofs.links_well.Statement.{statement}
 use Rattle.sound.proofs.links_well.Tie as tie
 
@@ -10,8 +11,9 @@ four-requires c κs = search needs
 
 returns : tie.Need-returns
 returns c =
-    let start = c .before .before .before .before .before .before in
-    tested-empty (start .pre) (c .before .four .ensures) (c .if1 .taken)
+    let word = c .before in
+    let start = word .before .before .before .before .before in
+    tested-empty (start .pre) (word .four .ensures) (c .if1 .taken)
 
 shared-slice-read-state : tie.Need-shared-slice-read-state
 shared-slice-read-state c = search needs
@@ -45,8 +47,7 @@ link-well-requires : tie.Need-link-well-requires
 link-well-requires c κs =
     let not-free = c .before .before .before .before in
     let start = not-free .before .before .before .before .before .before .before .before in
-    let given = start .pre in
-    next-given given (places-start given) (omega arith) (not-free .if2 .left)
+    next-given (start .pre) (places-start (start .pre)) (omega arith) (not-free .if2 .left)
 
 same-length : tie.Need-same-length
 same-length c = search needs
@@ -63,12 +64,13 @@ same-length-2 c = search needs
 
 returns-4 : tie.Need-returns-4
 returns-4 c =
-    let first = c .before .before .before .before in
+    let first-passed = c .before in
+    let first = first-passed .before .before .before in
     let own = first .before .before .before in
     let word = own .before .before .before .before .before in
     let start = word .before .before .before .before .before in
-    let given = start .pre in
-    tested-one given (first-well given (own .label .ensures) (first .link-well .ensures) (c .before .if3 .left)) (word .four .ensures) (c .if4 .taken)
+    let one = first-well (start .pre) (own .label .ensures) (first .link-well .ensures) (first-passed .if3 .left) in
+    tested-rest (start .pre) 3 refl one (λ k l u. word .four .ensures .rest (c .if4 .taken) k u (omega arith))
 
 mul-link-well-3 : tie.Need-mul-link-well-3
 mul-link-well-3 c = search needs
@@ -89,8 +91,8 @@ link-well-requires-2 c κs =
     let own = first .before .before .before in
     let not-free = own .before .before in
     let start = not-free .before .before .before .before .before .before .before .before in
-    let given = start .pre in
-    next-given given (first-well given (own .label .ensures) (first .link-well .ensures) (first-passed .if3 .left)) (omega arith) (not-free .if2 .left)
+    let one = first-well (start .pre) (own .label .ensures) (first .link-well .ensures) (first-passed .if3 .left) in
+    next-given (start .pre) one (omega arith) (not-free .if2 .left)
 
 same-length-3 : tie.Need-same-length-3
 same-length-3 c = search needs
@@ -102,8 +104,24 @@ returns-5 c =
     let first = first-passed .before .before .before in
     let own = first .before .before .before in
     let start = own .before .before .before .before .before .before .before .before .before .before in
-    let given = start .pre in
-    next-wrong given (first-well given (own .label .ensures) (first .link-well .ensures) (first-passed .if3 .left)) (omega arith) (own .label .ensures) (second .link-well2 .ensures) (c .if5 .taken)
+    let one = first-well (start .pre) (own .label .ensures) (first .link-well .ensures) (first-passed .if3 .left) in
+    next-wrong (start .pre) one (omega arith) (own .label .ensures) (second .link-well2 .ensures) (c .if5 .taken)
+
+same-length-4 : tie.Need-same-length-4
+same-length-4 c = search needs
+
+returns-6 : tie.Need-returns-6
+returns-6 c =
+    let second-passed = c .before in
+    let second = second-passed .before .before .before in
+    let first-passed = second .before .before .before .before in
+    let first = first-passed .before .before .before in
+    let own = first .before .before .before in
+    let word = own .before .before .before .before .before in
+    let start = word .before .before .before .before .before in
+    let one = first-well (start .pre) (own .label .ensures) (first .link-well .ensures) (first-passed .if3 .left) in
+    let two = next-well (start .pre) one (omega arith) (own .label .ensures) (second .link-well2 .ensures) (second-passed .if5 .left) in
+    tested-rest (start .pre) 2 refl two (λ k l u. word .four .ensures .last (c .if6 .taken) k u (omega arith))
 
 mul-link-well-5 : tie.Need-mul-link-well-5
 mul-link-well-5 c = search needs
@@ -119,95 +137,91 @@ shared-slice-read-link-well-3 c = search needs
 
 link-well-requires-3 : tie.Need-link-well-requires-3
 link-well-requires-3 c κs =
-    let second-passed = c .before .before in
+    let second-passed = c .before .before .before in
     let second = second-passed .before .before .before in
     let first-passed = second .before .before .before .before in
     let first = first-passed .before .before .before in
     let own = first .before .before .before in
     let not-free = own .before .before in
     let start = not-free .before .before .before .before .before .before .before .before in
-    let given = start .pre in
-    let one = first-well given (own .label .ensures) (first .link-well .ensures) (first-passed .if3 .left) in
-    let two = next-well given one (omega arith) (own .label .ensures) (second .link-well2 .ensures) (second-passed .if5 .left) in
-    next-given given two (omega arith) (not-free .if2 .left)
-
-same-length-4 : tie.Need-same-length-4
-same-length-4 c = search needs
-
-returns-6 : tie.Need-returns-6
-returns-6 c =
-    let third = c .before .before .before in
-    let second-passed = third .before .before .before in
-    let second = second-passed .before .before .before in
-    let first-passed = second .before .before .before .before in
-    let first = first-passed .before .before .before in
-    let own = first .before .before .before in
-    let start = own .before .before .before .before .before .before .before .before .before .before in
-    let given = start .pre in
-    let one = first-well given (own .label .ensures) (first .link-well .ensures) (first-passed .if3 .left) in
-    let two = next-well given one (omega arith) (own .label .ensures) (second .link-well2 .ensures) (second-passed .if5 .left) in
-    next-wrong given two (omega arith) (own .label .ensures) (third .link-well3 .ensures) (c .if6 .taken)
-
-mul-link-well-7 : tie.Need-mul-link-well-7
-mul-link-well-7 c =
-    let first-passed = c .before .before .before .before .before .before .before .before .before .before .before .before .before .before in
-    let given = first-passed .before .before .before .before .before .before .before .before .before .before .before .before .before .before .before .before .pre in
-    omega (arith, given .below, given .labelled .small)
-
-add-link-well-3 : tie.Need-add-link-well-3
-add-link-well-3 c =
-    let first-passed = c .before .before .before .before .before .before .before .before .before .before .before .before .before .before in
-    let given = first-passed .before .before .before .before .before .before .before .before .before .before .before .before .before .before .before .before .pre in
-    omega (arith, given .below, given .labelled .small)
-
-mul-link-well-8 : tie.Need-mul-link-well-8
-mul-link-well-8 c =
-    let first-passed = c .before .before .before .before .before .before .before .before .before .before .before .before .before .before in
-    let given = first-passed .before .before .before .before .before .before .before .before .before .before .before .before .before .before .before .before .pre in
-    omega (arith, given .below, given .labelled .small)
-
-shared-slice-read-link-well-4 : tie.Need-shared-slice-read-link-well-4
-shared-slice-read-link-well-4 c =
-    let first-passed = c .before .before .before .before .before .before .before .before .before .before .before .before .before .before .before in
-    let given = first-passed .before .before .before .before .before .before .before .before .before .before .before .before .before .before .before .before .pre in
-    omega (arith, given .links-n, given .below)
-
-link-well-requires-4 : tie.Need-link-well-requires-4
-link-well-requires-4 c κs =
-    let third-passed = c .before .before in
-    let third = third-passed .before .before .before in
-    let second-passed = third .before .before .before in
-    let second = second-passed .before .before .before in
-    let first-passed = second .before .before .before .before in
-    let first = first-passed .before .before .before in
-    let own = first .before .before .before in
-    let not-free = own .before .before in
-    let start = not-free .before .before .before .before .before .before .before .before in
-    let given = start .pre in
-    let one = first-well given (own .label .ensures) (first .link-well .ensures) (first-passed .if3 .left) in
-    let two = next-well given one (omega arith) (own .label .ensures) (second .link-well2 .ensures) (second-passed .if5 .left) in
-    let three = next-well given two (omega arith) (own .label .ensures) (third .link-well3 .ensures) (third-passed .if6 .left) in
-    next-given given three (omega arith) (not-free .if2 .left)
+    let one = first-well (start .pre) (own .label .ensures) (first .link-well .ensures) (first-passed .if3 .left) in
+    let two = next-well (start .pre) one (omega arith) (own .label .ensures) (second .link-well2 .ensures) (second-passed .if5 .left) in
+    next-given (start .pre) two (omega arith) (not-free .if2 .left)
 
 same-length-5 : tie.Need-same-length-5
 same-length-5 c = search needs
 
 returns-7 : tie.Need-returns-7
 returns-7 c =
-    let fourth = c .before .before in
-    let third-passed = fourth .before .before .before in
-    let third = third-passed .before .before .before in
-    let second-passed = third .before .before .before in
+    let third = c .before .before .before in
+    let second-passed = third .before .before .before .before in
     let second = second-passed .before .before .before in
     let first-passed = second .before .before .before .before in
     let first = first-passed .before .before .before in
     let own = first .before .before .before in
     let start = own .before .before .before .before .before .before .before .before .before .before in
-    let given = start .pre in
-    let one = first-well given (own .label .ensures) (first .link-well .ensures) (first-passed .if3 .left) in
-    let two = next-well given one (omega arith) (own .label .ensures) (second .link-well2 .ensures) (second-passed .if5 .left) in
-    let three = next-well given two (omega arith) (own .label .ensures) (third .link-well3 .ensures) (third-passed .if6 .left) in
-    tested-four given (own .label .ensures) three (fourth .link-well4 .ensures)
+    let one = first-well (start .pre) (own .label .ensures) (first .link-well .ensures) (first-passed .if3 .left) in
+    let two = next-well (start .pre) one (omega arith) (own .label .ensures) (second .link-well2 .ensures) (second-passed .if5 .left) in
+    next-wrong (start .pre) two (omega arith) (own .label .ensures) (third .link-well3 .ensures) (c .if7 .taken)
+
+mul-link-well-7 : tie.Need-mul-link-well-7
+mul-link-well-7 c =
+    let third = c .before .before .before .before .before .before .before .before .before .before .before .before in
+    let start = third .before .before .before .before .before .before .before .before .before .before .before .before .before .before .before .before .before .before .before in
+    omega (arith, start .pre .below, start .pre .labelled .small)
+
+add-link-well-3 : tie.Need-add-link-well-3
+add-link-well-3 c =
+    let third = c .before .before .before .before .before .before .before .before .before .before .before .before in
+    let start = third .before .before .before .before .before .before .before .before .before .before .before .before .before .before .before .before .before .before .before in
+    omega (arith, start .pre .below, start .pre .labelled .small)
+
+mul-link-well-8 : tie.Need-mul-link-well-8
+mul-link-well-8 c =
+    let third = c .before .before .before .before .before .before .before .before .before .before .before .before in
+    let start = third .before .before .before .before .before .before .before .before .before .before .before .before .before .before .before .before .before .before .before in
+    omega (arith, start .pre .below, start .pre .labelled .small)
+
+shared-slice-read-link-well-4 : tie.Need-shared-slice-read-link-well-4
+shared-slice-read-link-well-4 c =
+    let third = c .before .before .before .before .before .before .before .before .before .before .before .before in
+    let start = third .before .before .before .before .before .before .before .before .before .before .before .before .before .before .before .before .before .before .before .before in
+    omega (arith, start .pre .below, start .pre .links-n)
+
+link-well-requires-4 : tie.Need-link-well-requires-4
+link-well-requires-4 c κs =
+    let third-passed = c .before .before in
+    let third = third-passed .before .before .before in
+    let second-passed = third .before .before .before .before in
+    let second = second-passed .before .before .before in
+    let first-passed = second .before .before .before .before in
+    let first = first-passed .before .before .before in
+    let own = first .before .before .before in
+    let not-free = own .before .before in
+    let start = not-free .before .before .before .before .before .before .before .before in
+    let one = first-well (start .pre) (own .label .ensures) (first .link-well .ensures) (first-passed .if3 .left) in
+    let two = next-well (start .pre) one (omega arith) (own .label .ensures) (second .link-well2 .ensures) (second-passed .if5 .left) in
+    let three = next-well (start .pre) two (omega arith) (own .label .ensures) (third .link-well3 .ensures) (third-passed .if7 .left) in
+    next-given (start .pre) three (omega arith) (not-free .if2 .left)
+
+same-length-6 : tie.Need-same-length-6
+same-length-6 c = search needs
+
+returns-8 : tie.Need-returns-8
+returns-8 c =
+    let fourth = c .before .before in
+    let third-passed = fourth .before .before .before in
+    let third = third-passed .before .before .before in
+    let second-passed = third .before .before .before .before in
+    let second = second-passed .before .before .before in
+    let first-passed = second .before .before .before .before in
+    let first = first-passed .before .before .before in
+    let own = first .before .before .before in
+    let start = own .before .before .before .before .before .before .before .before .before .before in
+    let one = first-well (start .pre) (own .label .ensures) (first .link-well .ensures) (first-passed .if3 .left) in
+    let two = next-well (start .pre) one (omega arith) (own .label .ensures) (second .link-well2 .ensures) (second-passed .if5 .left) in
+    let three = next-well (start .pre) two (omega arith) (own .label .ensures) (third .link-well3 .ensures) (third-passed .if7 .left) in
+    tested-four (start .pre) (own .label .ensures) three (fourth .link-well4 .ensures)
 
 pub links-well-spec : {M : Type 1} → statement M
 links-well-spec =
@@ -235,17 +249,19 @@ links-well-spec =
     link-well-requires-2
     same-length-3
     returns-5
+    same-length-4
+    returns-6
     mul-link-well-5
     add-link-well-2
     mul-link-well-6
     shared-slice-read-link-well-3
     link-well-requires-3
-    same-length-4
-    returns-6
+    same-length-5
+    returns-7
     mul-link-well-7
     add-link-well-3
     mul-link-well-8
     shared-slice-read-link-well-4
     link-well-requires-4
-    same-length-5
-    returns-7)
+    same-length-6
+    returns-8)

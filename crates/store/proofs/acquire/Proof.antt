@@ -1,16 +1,27 @@
--- `store::acquire` keeps its promise: each arm of how it began cites its law, and each area keeps its length. Assumes nothing.
+-- `store::acquire` keeps its promise: each arm of how it began cites its law, work is cleared on the way out, and each area keeps its length. Assumes nothing.
 use mathlib.Core.Path.{refl}
+use native.Mathlib.Omega.{arith}
 use Rattle.rules.specs.Commands.{settles}
 use Rattle.rules.specs.Calls.{refusedBy, refusedCall, takesList, takesWork}
 use Rattle.into.specs.Stores.{leavesInto}
 use Rattle.holding.specs.Acquired.{acquiring-of}
-use Rattle.entering.specs.Entered.{entered-by}
+use Rattle.entering.specs.Entered.{entered-by, flawed-leaving, sound-leaving}
 use Rattle.entering.specs.Calls.{short-arm, flawed-arm, still-unlisted-arm}
 use Rattle.store.proofs.acquire.Statement.{statement}
 use Rattle.store.proofs.acquire.Tie as tie
 
+leave-requires : tie.Need-leave-requires
+leave-requires c κs = flawed-leaving (c .before .before .before .before .before .enter .ensures) (c .before .enum-told2 .given .1)
+
 acquire-requires : tie.Need-acquire-requires
-acquire-requires c κs = acquiring-of (entered-by (c .before .before .before .before .before .before .before .enter .ensures) (c .before .before .before .enum-told3 .given .1))
+acquire-requires c κs =
+    let told = c .before .before .before in
+    acquiring-of (entered-by (told .before .before .before .before .enter .ensures) (told .enum-told3 .given .1))
+
+leave-requires-2 : tie.Need-leave-requires-2
+leave-requires-2 c κs =
+    let told = c .before .before .before .before .before .before .before .before .before .before .before in
+    sound-leaving (told .before .before .before .before .enter .ensures) (told .enum-told3 .given .1)
 
 returns : tie.Need-returns
 unfolding refusedBy refusedCall takesList takesWork
@@ -18,15 +29,18 @@ returns c = search short-arm
 
 returns-2 : tie.Need-returns-2
 unfolding refusedBy takesList
-returns-2 c = search flawed-arm
+returns-2 c =
+    let told = c .before .before .before .before in
+    flawed-arm refl (told .before .before .before .before .enter .ensures) (told .enum-told2 .given .1) (c .before .before .leave .ensures)
 
 returns-3 : tie.Need-returns-3
 unfolding takesList settles leavesInto
 returns-3 c =
-    let done = c .before .before .before .before .before .before in
-    let entered = done .before .before .before .before .before .before .before .before .enter .ensures in
-    let sound = done .before .before .before .before .enum-told3 .given .1 in
-    still-unlisted-arm entered sound refl refl (done .acquire .ensures .did (entered-by entered sound)) refl
+    let done = c .before .before .before .before .before .before .before .before .before .before in
+    let told = done .before .before .before .before in
+    let entered = told .before .before .before .before .enter .ensures in
+    let sound = told .enum-told3 .given .1 in
+    still-unlisted-arm entered sound refl refl (done .acquire .ensures .did (entered-by entered sound)) (c .before .before .leave2 .ensures)
 
 pub acquire-spec : {M : Type 1} → statement M
 acquire-spec =
@@ -35,20 +49,22 @@ acquire-spec =
     (λ c κs. tt)
     (λ c. c .match .keys1)
     (λ c. c .match .keys2)
+    leave-requires
     (λ c. c .match .keys3)
     acquire-requires
+    leave-requires-2
     (λ c. refl)
     (λ c. refl)
     (λ c. refl)
-    (λ c. search depth 0)
+    (λ c. c .before .before .before .before .enter .kept .1 .1 .1 .1 .1 .1 .1 .1 .1 .0)
     returns
     (λ c. refl)
     (λ c. refl)
     (λ c. refl)
-    (λ c. search depth 0)
+    (λ c. omega arith)
     returns-2
     (λ c. search depth 0)
     (λ c. search depth 0)
     (λ c. search depth 0)
-    (λ c. search depth 0)
+    (λ c. omega arith)
     returns-3)

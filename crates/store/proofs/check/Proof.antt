@@ -1,8 +1,18 @@
--- `store::check` keeps its promise: each arm of how it began cites its law, and each area keeps its length. Assumes nothing.
+-- `store::check` keeps its promise: each arm of how it began cites its law, work is cleared on the way out, and each area keeps its length. Assumes nothing.
+use native.Mathlib.Omega.{arith}
 use Rattle.rules.specs.Calls.{refusedCall, takesList, takesWork}
+use Rattle.entering.specs.Entered.{flawed-leaving, sound-leaving}
 use Rattle.entering.specs.Calls.{short-arm, check-no, check-yes}
 use Rattle.store.proofs.check.Statement.{statement}
 use Rattle.store.proofs.check.Tie as tie
+
+leave-requires : tie.Need-leave-requires
+leave-requires c κs = flawed-leaving (c .before .before .before .before .before .enter .ensures) (c .before .enum-told2 .given .1)
+
+leave-requires-2 : tie.Need-leave-requires-2
+leave-requires-2 c κs =
+    let told = c .before in
+    sound-leaving (told .before .before .before .before .enter .ensures) (told .enum-told3 .given .1)
 
 returns : tie.Need-returns
 unfolding refusedCall takesList takesWork
@@ -10,11 +20,17 @@ returns c = search short-arm
 
 returns-2 : tie.Need-returns-2
 unfolding takesList
-returns-2 c = search check-no
+returns-2 c =
+    let told = c .before .before .before .before in
+    check-no (told .before .before .before .before .enter .ensures) (told .enum-told2 .given .1) (c .before .before .leave .ensures)
 
 returns-3 : tie.Need-returns-3
 unfolding takesList
-returns-3 c = search check-yes
+returns-3 c =
+    let told = c .before .before .before .before in
+    let entered = told .before .before .before .before .enter .ensures in
+    let sound = told .enum-told3 .given .1 in
+    check-yes entered sound (c .before .before .leave2 .ensures)
 
 pub check-spec : {M : Type 1} → statement M
 check-spec =
@@ -23,10 +39,12 @@ check-spec =
     (λ c κs. tt)
     (λ c. c .match .keys1)
     (λ c. c .match .keys2)
+    leave-requires
     (λ c. c .match .keys3)
-    (λ c. search depth 0)
+    leave-requires-2
+    (λ c. c .before .before .before .before .enter .kept .1 .1 .1 .1 .1 .1 .1 .1 .1 .0)
     returns
-    (λ c. search depth 0)
+    (λ c. omega arith)
     returns-2
-    (λ c. search depth 0)
+    (λ c. omega arith)
     returns-3)

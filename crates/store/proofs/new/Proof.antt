@@ -1,4 +1,4 @@
--- `store::new` keeps its promise: each arm of how it began cites its law, and each area keeps its length. Assumes nothing.
+-- `store::new` keeps its promise: each arm of how it began cites its law, work is cleared on the way out, and each area keeps its length. Assumes nothing.
 use mathlib.Core.Path.{refl}
 use Prim.Native.Nat.{zero-le}
 use native.Mathlib.Omega.{arith}
@@ -7,14 +7,23 @@ use Rattle.rules.specs.Calls.{refusedBy, refusedCall, takesList, takesWork}
 use Rattle.into.specs.Stores.{leavesInto}
 use Rattle.laws.specs.Verdicts.{bare-did}
 use Rattle.giving.specs.Gave.{giving-of}
-use Rattle.entering.specs.Entered.{entered-tables}
+use Rattle.entering.specs.Entered.{entered-tables, flawed-leaving, sound-leaving}
 use Rattle.entering.specs.Calls.{short-arm, flawed-arm, still-unlisted-arm}
 use Rattle.store.proofs.new.Statement.{statement}
 use Rattle.store.proofs.new.Tie as tie
 
+leave-requires : tie.Need-leave-requires
+leave-requires c κs = flawed-leaving (c .before .before .before .before .before .enter .ensures) (c .before .enum-told2 .given .1)
+
 new-requires : tie.Need-new-requires
 new-requires c κs =
-    giving-of (entered-tables (c .before .before .before .before .before .enter .ensures) (c .before .enum-told3 .given .1)) zero-le (λ q h. absurd (omega arith))
+    let told = c .before in
+    giving-of (entered-tables (told .before .before .before .before .enter .ensures) (told .enum-told3 .given .1)) zero-le (λ q h. absurd (omega arith))
+
+leave-requires-2 : tie.Need-leave-requires-2
+leave-requires-2 c κs =
+    let told = c .before .before .before .before .before in
+    sound-leaving (told .before .before .before .before .enter .ensures) (told .enum-told3 .given .1)
 
 returns : tie.Need-returns
 unfolding refusedBy refusedCall takesList takesWork
@@ -22,14 +31,18 @@ returns c = search short-arm
 
 returns-2 : tie.Need-returns-2
 unfolding refusedBy takesList
-returns-2 c = search flawed-arm
+returns-2 c =
+    let told = c .before .before .before .before in
+    flawed-arm refl (told .before .before .before .before .enter .ensures) (told .enum-told2 .given .1) (c .before .before .leave .ensures)
 
 returns-3 : tie.Need-returns-3
 unfolding takesList settles leavesInto
 returns-3 c =
-    let entered = c .before .before .before .before .before .before .before .before .enter .ensures in
-    let sound = c .before .before .before .before .enum-told3 .given .1 in
-    still-unlisted-arm entered sound refl refl (bare-did refl (c .before .before .new .ensures .did (entered-tables entered sound))) refl
+    let done = c .before .before .before .before .before .before in
+    let told = done .before .before in
+    let entered = told .before .before .before .before .enter .ensures in
+    let sound = told .enum-told3 .given .1 in
+    still-unlisted-arm entered sound refl refl (bare-did refl (done .new .ensures .did (entered-tables entered sound))) (c .before .before .leave2 .ensures)
 
 pub new-spec : {M : Type 1} → statement M
 new-spec =
@@ -38,14 +51,16 @@ new-spec =
     (λ c κs. tt)
     (λ c. c .match .keys1)
     (λ c. c .match .keys2)
+    leave-requires
     (λ c. c .match .keys3)
     new-requires
+    leave-requires-2
     (λ c. refl)
-    (λ c. search depth 0)
+    (λ c. c .before .before .before .before .enter .kept .1 .1 .1 .1 .1 .1 .1 .1 .1 .0)
     returns
     (λ c. refl)
-    (λ c. search depth 0)
+    (λ c. omega arith)
     returns-2
     (λ c. search depth 0)
-    (λ c. search depth 0)
+    (λ c. omega arith)
     returns-3)

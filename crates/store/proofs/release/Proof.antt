@@ -1,16 +1,26 @@
--- `store::release` keeps its promise: each arm of how it began cites its law, and each area keeps its length. Assumes nothing.
+-- `store::release` keeps its promise: each arm of how it began cites its law, work is cleared on the way out, and each area keeps its length. Assumes nothing.
 use mathlib.Core.Path.{refl}
+use native.Mathlib.Omega.{arith}
 use Rattle.rules.specs.Calls.{refusedBy, refusedCall, takesList, takesWork}
 use Rattle.into.specs.Stores.{leavesInto}
-use Rattle.entering.specs.Entered.{entered-by-listed}
+use Rattle.entering.specs.Entered.{entered-by-listed, flawed-leaving, sound-leaving}
 use Rattle.entering.specs.Calls.{short-arm, flawed-arm, still-arm}
 use Rattle.store.proofs.release.Statement.{statement}
 use Rattle.store.proofs.release.Tie as tie
 
+leave-requires : tie.Need-leave-requires
+leave-requires c κs = flawed-leaving (c .before .before .before .before .before .enter .ensures) (c .before .enum-told2 .given .1)
+
 release-requires : tie.Need-release-requires
 release-requires c κs =
-    entered-by-listed (c .before .before .before .before .before .before .before .before .before .before .before .enter .ensures)
-    (c .before .before .before .before .before .before .before .enum-told3 .given .1)
+    let told = c .before .before .before .before .before .before .before in
+    entered-by-listed (told .before .before .before .before .enter .ensures) (told .enum-told3 .given .1)
+
+leave-requires-2 : tie.Need-leave-requires-2
+leave-requires-2 c κs =
+    let done = c .before .before .before .before .before .before .before .before .before .before .before .before .before .before .before in
+    let told = done .before .before .before .before .before .before .before .before in
+    sound-leaving (told .before .before .before .before .enter .ensures) (told .enum-told3 .given .1)
 
 returns : tie.Need-returns
 unfolding refusedBy refusedCall takesList takesWork
@@ -18,11 +28,18 @@ returns c = search short-arm
 
 returns-2 : tie.Need-returns-2
 unfolding refusedBy takesList
-returns-2 c = search flawed-arm
+returns-2 c =
+    let told = c .before .before .before .before in
+    flawed-arm refl (told .before .before .before .before .enter .ensures) (told .enum-told2 .given .1) (c .before .before .leave .ensures)
 
 returns-3 : tie.Need-returns-3
 unfolding takesList leavesInto
-returns-3 c = search still-arm
+returns-3 c =
+    let done = c .before .before .before .before .before .before .before .before .before .before .before .before .before .before .before .before .before .before in
+    let told = done .before .before .before .before .before .before .before .before in
+    let entered = told .before .before .before .before .enter .ensures in
+    let sound = told .enum-told3 .given .1 in
+    still-arm entered sound refl (done .release .ensures) (c .before .before .leave2 .ensures)
 
 pub release-spec : {M : Type 1} → statement M
 release-spec =
@@ -31,15 +48,17 @@ release-spec =
     (λ c κs. tt)
     (λ c. c .match .keys1)
     (λ c. c .match .keys2)
+    leave-requires
     (λ c. c .match .keys3)
     release-requires
+    leave-requires-2
     (λ c. refl)
     (λ c. refl)
     (λ c. refl)
     (λ c. refl)
     (λ c. refl)
     (λ c. refl)
-    (λ c. search depth 0)
+    (λ c. c .before .before .before .before .enter .kept .1 .1 .1 .1 .1 .1 .1 .1 .1 .0)
     returns
     (λ c. refl)
     (λ c. refl)
@@ -47,7 +66,7 @@ release-spec =
     (λ c. refl)
     (λ c. refl)
     (λ c. refl)
-    (λ c. search depth 0)
+    (λ c. omega arith)
     returns-2
     (λ c. search depth 0)
     (λ c. search depth 0)
@@ -56,5 +75,5 @@ release-spec =
     (λ c. search depth 0)
     (λ c. search depth 0)
     (λ c. search depth 0)
-    (λ c. search depth 0)
+    (λ c. omega arith)
     returns-3)
