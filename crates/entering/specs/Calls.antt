@@ -81,7 +81,8 @@ module _ {t : Tables} {register into l w w′ : List ℕ} {r : Entry} {c : Comma
   tables-arm bare d left = sound-arm x is (with-into (into-ready (entered-ready x is)) (d .1) (bare-did bare (d .0))) left
 
   -- or left them
-  pub still-arm : {a : Reply} {t′ : Tables} {register′ l′ w″ : List ℕ} → leavesInto c ≡ true → Did c (storeBy t register) l (effect a (storeBy t′ register′) l′) → w″ ≡ clear (t .base .n) w′
+  pub still-arm : {a : Reply} {t′ : Tables} {register′ l′ w″ : List ℕ} → leavesInto c ≡ true → Did c (storeBy t register) l (effect a (storeBy t′ register′) l′)
+      → w″ ≡ clear (t .base .n) w′
       → Promise (does c) (areasOf (storeOn t register into) l w) (outcome a (areasOf (storeOn t′ register′ into) l′ w″))
   still-arm leaves d left = sound-arm x is (still-into leaves (entered-ready x is) d) left
 

@@ -107,7 +107,8 @@ module _ {s : Store} {room : ℕ} {work : List ℕ} where
   fitted e f l w = let z = sizes e f in record { least = z .0; sized = z .1; listed = l; worked = w }
 
   -- the tables are not sound, or the links into a draft are not right
-  pub judged-flawed : {r : Bool} {work′ : List ℕ} → Fitted s room work → not r ≡ true → r ≡ follows s → LaterSame (8 * s .tables .base .n) work work′ → Entered s room work Flawed work′
+  pub judged-flawed : {r : Bool} {work′ : List ℕ} → Fitted s room work → not r ≡ true → r ≡ follows s → LaterSame (8 * s .tables .base .n) work work′
+      → Entered s room work Flawed work′
   judged-flawed z e f w = record { began = (→fits z, rw sound-is (go (follows s) (agrees s) (denied e f)), w) }
     where
       go : (b c : Bool) → T (not b) → T (not (b & c))
