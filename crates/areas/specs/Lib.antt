@@ -1,4 +1,3 @@
 pub mod Lowest
 pub mod Four
 pub mod Blocks
-pub mod Filled

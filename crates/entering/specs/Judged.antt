@@ -18,6 +18,9 @@ use Rattle.rules.specs.Calls.{isSized, isSizedStore}
 use Rattle.laws.specs.Tests.{and-both}
 use Rattle.laws.specs.Calls.{sized-store→, →sized-store}
 use Rattle.tallies.specs.Adding.{LaterSame, later-then, later-on}
+use Rattle.tallies.specs.Parts.{partOf, partBack, part-n, part-at, back-later}
+use Rattle.sound.specs.Truthful.{was-yes}
+use Rattle.sound.specs.Judged.{SumsZero}
 use Rattle.entering.specs.declared.Entry.the-variants.{Short, Flawed, Sound}
 use Rattle.entering.specs.Entered.{fits, Entered, Fitted, fits→, →fits}
 
@@ -115,18 +118,34 @@ module _ {s : Store} {room : ℕ} {work : List ℕ} where
       go true c t = absurd t
       go false c t = tt
 
-  -- they are, and the register decides
-  module _ {r a : Bool} {work′ work″ : List ℕ} (z : Fitted s room work) (e : not r ≡ false) (f : r ≡ follows s) (g : a ≡ agrees s) (w : LaterSame (8 * s .tables .base .n) work work′)
-      (v : LaterSame (s .tables .base .n) work′ work″) where
-    later : LaterSame (8 * s .tables .base .n) work work″
-    later = later-then w (later-on (8 * s .tables .base .n) (omega arith) v)
+  -- they are, and the register decides, over the eighth region, which is 0
+  module _ {work′ : List ℕ} (z : Fitted s room work) (w : LaterSame (8 * s .tables .base .n) work work′) where
+    pub register-given : {r : Bool} → not r ≡ false → (r ≡ true → SumsZero (s .tables .base .n) work′)
+        → (s .tables .base .n ≤ 1024) × (length (s .register) ≡ entries) × (length (s .tables .base .holds) ≡ s .tables .base .n)
+        × (s .tables .base .n ≤ length (partOf (7 * s .tables .base .n) work′)) × ((p : ℕ) → p < s .tables .base .n → partOf (7 * s .tables .base .n) work′ ! p ≡ 0)
+    register-given e sums =
+        let n = s .tables .base .n in
+        let t = z .sized in (
+          t .tables .base .most,
+          t .register,
+          t .tables .base .holds,
+          omega (arith, part-n (7 * n) work′, z .worked, w .size),
+          λ p h. part-at (7 * n) work′ p ∙ sums (was-yes e) p h,
+        )
 
-    pub judged-sound : a ≡ true → Entered s room work Sound work″
-    judged-sound is = record { began = (→fits z, rw sound-is (and-both (follows s) (agrees s) (granted e f) (subst T (sym is ∙ g) tt)), later) }
+    module _ {part : List ℕ} (v : LaterSame (s .tables .base .n) (partOf (7 * s .tables .base .n) work′) part) where
+      later : LaterSame (8 * s .tables .base .n) work (partBack (7 * s .tables .base .n) work′ part)
+      later =
+          let n = s .tables .base .n in
+          later-then w (later-on (8 * n) (omega arith) (back-later (7 * n) work′ (omega (arith, z .worked, w .size)) part v))
 
-    pub judged-apart : a ≡ false → Entered s room work Flawed work″
-    judged-apart is = record { began = (→fits z, rw sound-is (go (follows s) (agrees s) (subst (λ (b : Bool). T (not b)) (sym is ∙ g) tt)), later) }
-      where
-        go : (b c : Bool) → T (not c) → T (not (b & c))
-        go true c t = t
-        go false c t = tt
+      module _ {r a : Bool} (e : not r ≡ false) (f : r ≡ follows s) (g : a ≡ agrees s) where
+        pub judged-sound : a ≡ true → Entered s room work Sound (partBack (7 * s .tables .base .n) work′ part)
+        judged-sound is = record { began = (→fits z, rw sound-is (and-both (follows s) (agrees s) (granted e f) (subst T (sym is ∙ g) tt)), later) }
+
+        pub judged-apart : a ≡ false → Entered s room work Flawed (partBack (7 * s .tables .base .n) work′ part)
+        judged-apart is = record { began = (→fits z, rw sound-is (go (follows s) (agrees s) (subst (λ (b : Bool). T (not b)) (sym is ∙ g) tt)), later) }
+          where
+            go : (b c : Bool) → T (not c) → T (not (b & c))
+            go true c t = t
+            go false c t = tt

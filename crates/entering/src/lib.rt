@@ -68,7 +68,9 @@ pub fn enter(
     if !sound::is_sound(n, states, links, leaders, holds, counts, into, work) {
         return Entry::Flawed;
     }
-    if register::agrees(n, register, holds, work) {
+    let at = 7 * n;
+    let agrees = register::agrees(n, register, holds, &mut work[at..]);
+    if agrees {
         return Entry::Sound;
     }
     Entry::Flawed

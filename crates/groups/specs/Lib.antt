@@ -10,4 +10,3 @@ pub mod Whole
 pub mod Grouped
 pub mod Root
 pub mod Roots
-pub mod Unset

@@ -8,7 +8,7 @@ ghost use Rattle.rules.specs.Lists.{_!_};
 ghost use Rattle.paths.specs.Ground.{OneWay, ground};
 ghost use Rattle.paths.specs.Moves.Pop.{LowestOnStack};
 ghost use Rattle.groups.specs.Layout.{part};
-ghost use Rattle.groups.specs.Steps.{Lent, UnderWay, Exhausted, Progressed, Advanced, Stackable, stacked, Blocks, Cut, Ending, closedOne};
+ghost use Rattle.groups.specs.Steps.{UnderWay, Exhausted, Progressed, Advanced, Stackable, stacked, Blocks, Cut, Ending, closedOne};
 ghost use Rattle.groups.specs.Steps.{Pieces, ClosedOff, Resumable, Resumed, Started, Searched};
 ghost use Rattle.groups.specs.Grouped.{Searchable, Visitable, Grouped, Led, ReachedFrom, Of};
 use rules::Store;
@@ -248,7 +248,7 @@ pub fn visit(n: usize, states: &[u8], links: &[u16], class: u8, work: &mut [u32]
 }
 
 // Finishes every piece of the class, and no other, each with its leader, where the marks and the next places are 0.
-fn visit_each(n: usize, states: &[u8], links: &[u16], class: u8, work: &mut [u32])
+pub fn visit_all(n: usize, states: &[u8], links: &[u16], class: u8, work: &mut [u32])
     requires { ⌜ Searchable n (now states) (now links) class (now work) ⌝ }
     ensures { λ _. ⌜ Grouped n (now (links .entry)) (Of (now (states .entry)) class) (now (work .entry)) (now (work .exit)) ⌝ }
 {
@@ -262,13 +262,4 @@ fn visit_each(n: usize, states: &[u8], links: &[u16], class: u8, work: &mut [u32
             }
         }
     }
-}
-
-// Finishes every piece of the class, and no other, each with its leader. Work may hold anything: the marks and the next places are set to 0 first.
-pub fn visit_all(n: usize, states: &[u8], links: &[u16], class: u8, work: &mut [u32])
-    requires { ⌜ Lent n (now states) (now links) (now work) × OneWay (ground n (now states) (now links) class) ⌝ }
-    ensures { λ _. ⌜ Grouped n (now (links .entry)) (Of (now (states .entry)) class) (now (work .entry)) (now (work .exit)) ⌝ }
-{
-    areas::fill_u32(work, 2 * n, 0);
-    visit_each(n, states, links, class, work);
 }

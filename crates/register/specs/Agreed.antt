@@ -15,7 +15,6 @@ use Rattle.rules.specs.Register.{isRight, heldIn}
 use Rattle.laws.specs.Tests.{same-test}
 use Rattle.laws.specs.Below.{every→, →every}
 use Rattle.laws.specs.Numbers.{eq-or}
-use Rattle.areas.specs.Filled.{Zeroed}
 use Rattle.tallies.specs.Adding.{LaterSame}
 
 -- ---- one piece
@@ -77,5 +76,5 @@ module _ {n : ℕ} {l w₀ w₁ : List ℕ} {b : Bool} (s : RightSaid n l w₀ w
   wrong-agreed holds t = ap (λ (x : Bool). x & every (λ p. eqb (holds ! p) (heldIn l p)) n) (sym t ∙ s .says)
 
 -- behind the sums work is as it was
-pub agreed-later : {n : ℕ} {l w w₀ w₁ : List ℕ} {b : Bool} → Zeroed n w w₀ → RightSaid n l w₀ w₁ b → LaterSame n w w₁
-agreed-later z s = record { size = s .size ∙ z .size; later = s .later ∙ z .later }
+pub agreed-later : {n : ℕ} {l w w₁ : List ℕ} {b : Bool} → RightSaid n l w w₁ b → LaterSame n w w₁
+agreed-later s = record { size = s .size; later = s .later }

@@ -374,13 +374,12 @@ fn compare(n: usize, holds: &[u16], sums: &[u32]) -> bool
     faults == 0
 }
 
-// Whether the register is right and every piece's holds are the sum over the lines that name it. The first n entries of work may hold anything, before and after.
+// Whether the register is right and every piece's holds are the sum over the lines that name it. The holds are added up into the first n entries of work, which are 0.
 pub fn agrees(n: usize, register: &[u16], holds: &[u16], work: &mut [u32]) -> bool
-    requires { ⌜ (n ≤ 1024) × (length (now register) ≡ entries) × (length (now holds) ≡ n) × (n ≤ length (now work)) ⌝ }
+    requires { ⌜ (n ≤ 1024) × (length (now register) ≡ entries) × (length (now holds) ≡ n) × (n ≤ length (now work)) × ((p : ℕ) → p < n → now work ! p ≡ 0) ⌝ }
     ensures { λ r. ⌜ (r ≡ (isRight n (now (register .entry)) & every (λ p. eqb (now (holds .entry) ! p) (heldIn (now (register .entry)) p)) n))
         × LaterSame n (now (work .entry)) (now (work .exit)) ⌝ }
 {
-    areas::fill_u32(work, n, 0);
     if is_right(n, register, work) {
         return compare(n, holds, work);
     }

@@ -1,6 +1,7 @@
 pub mod Truthful
 pub mod Faults
 pub mod Wells
+pub mod Zeros
 pub mod Labels
 pub mod Both
 pub mod Link

@@ -20,6 +20,10 @@ LinkWell n states s t = (t ≡ none) ⊎ ((t < n) × (((s ≡ 1) × ((states ! t
 abbrev pub HoldsWell : ℕ → ℕ → Type 0
 HoldsWell s h = ((s < 2) × (h ≡ 0)) ⊎ ((s ≡ 2) × (h ≤ mostHolds))
 
+-- r is the most that a piece of this state may have
+abbrev pub MostHolds : ℕ → ℕ → Type 0
+MostHolds s r = ((s ≡ 2) × (r ≡ mostHolds)) ⊎ ((s ≡ 2 → ⊥) × (r ≡ 0))
+
 -- the state and the holds of p are well
 abbrev pub HeldWell : List ℕ → List ℕ → ℕ → Type 0
 HeldWell states holds p = HoldsWell (states ! p) (holds ! p)
@@ -53,14 +57,18 @@ module _ {n : ℕ} (states : List ℕ) {s t : ℕ} where
       )
 
 module _ {s h : ℕ} where
-  pub holds-wrong : s ≡ 2 → mostHolds < h → HoldsWell s h → ⊥
-  holds-wrong e l w = ⊎-elim (λ x. omega (arith, x .0)) (λ x. omega (arith, x .1)) w
+  pub holds-over : {r : ℕ} → MostHolds s r → r < h → HoldsWell s h → ⊥
+  holds-over m l w =
+      ⊎-elim
+      (λ x. ⊎-elim (λ y. omega (arith, x .0, y .0)) (λ y. omega (arith, x .1, y .1)) m)
+      (λ x. ⊎-elim (λ y. omega (arith, x .1, y .1)) (λ y. y .0 (x .0)) m)
+      w
+
+  pub holds-within : {r : ℕ} → s ≤ 2 → MostHolds s r → h ≤ r → HoldsWell s h
+  holds-within k m l = ⊎-elim (λ y. inr (y .0, omega (arith, y .1))) (λ y. inl (omega (arith, y .0), omega (arith, y .1))) m
 
   pub state-wrong : 2 < s → HoldsWell s h → ⊥
   state-wrong l w = ⊎-elim (λ x. omega (arith, x .0)) (λ x. omega (arith, x .0)) w
-
-  pub holds-some : (s ≡ 2 → ⊥) → (h ≡ 0 → ⊥) → HoldsWell s h → ⊥
-  holds-some d f w = ⊎-elim (λ x. f (x .1)) (λ x. d (x .0)) w
 
   pub state-most : HoldsWell s h → s ≤ 2
   state-most w = ⊎-elim (λ x. omega (arith, x .0)) (λ x. omega (arith, x .0)) w

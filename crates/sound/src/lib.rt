@@ -1,8 +1,9 @@
 // The check of whole tables: every piece is well, leaders, counts and the links into each draft are as defined, and no group has count 0.
-// Of the work, the first six regions of n entries are the search's; the seventh has what is counted: for a group at its leader, for a draft at its number.
-// A pass that only compares counts its faults and is not left early: such a loop compiles to vector instructions.
+// Of the work, the first six regions of n entries are the search's; the seventh has what is counted: for a group at its leader, for a draft at its number; the eighth is left at 0.
+// A pass that only compares counts its faults and is not left early: such a loop compiles to vector instructions. The first sets what the walks read to 0 as it goes.
 ghost use mathlib.Core.Path.{_≡_};
-ghost use Prim.Native.Nat.{_*_, _≤_, _<_};
+ghost use mathlib.Core.Bool.{true};
+ghost use Prim.Native.Nat.{_+_, _*_, _≤_, _<_};
 ghost use lib.ListN.{length};
 ghost use Rattle.rules.specs.Tests.{_&_};
 ghost use Rattle.rules.specs.Tables.{isSound, intoRight, baseOf, tablesOf};
@@ -11,7 +12,8 @@ ghost use Rattle.tallies.specs.Adding.{LaterSame};
 ghost use Rattle.counts.specs.Added.{HoldAdded};
 ghost use Rattle.sound.specs.Truthful.{Truthful, Below};
 ghost use Rattle.sound.specs.Faults.{Faults};
-ghost use Rattle.sound.specs.Wells.{HoldsWell, HeldWell};
+ghost use Rattle.sound.specs.Wells.{HoldsWell, MostHolds, HeldWell};
+ghost use Rattle.sound.specs.Zeros.{Zeroed, PiecesZeroed};
 ghost use Rattle.sound.specs.Labels.{labelBy, labels};
 ghost use Rattle.sound.specs.Link.{HoldGiven, LinkGiven, LinkTested};
 ghost use Rattle.sound.specs.Links.{LinksGiven, LinksTested};
@@ -19,39 +21,84 @@ ghost use Rattle.sound.specs.Tested.{TablesGiven, AllTested};
 ghost use Rattle.sound.specs.Leaders.{Led, LeaderFound};
 ghost use Rattle.sound.specs.Counted.{CountGiven, UpTested};
 ghost use Rattle.sound.specs.Compared.{countedOf, otherOf, Compared, CountFound};
+ghost use Rattle.sound.specs.Judged.{SumsZero};
 use rules::Store;
+
+// The most holds that a piece of this state may have: none unless frozen.
+fn most_holds(state: u8) -> u16
+    ensures { λ r. ⌜ MostHolds state r ⌝ }
+{
+    if state == Store::FROZEN {
+        return Store::HOLDS;
+    }
+    0
+}
 
 // 1 unless the holds of a piece of this state are well: 0 unless frozen, and at most 1,000.
 fn holds_fault(state: u8, holds: u16) -> u16
     ensures { λ r. ⌜ Faults (HoldsWell state holds) 1 r ⌝ }
 {
-    if state == Store::FROZEN {
-        if holds <= Store::HOLDS {
-            return 0;
-        }
-        return 1;
-    }
     if 2 < state {
         return 1;
     }
-    if holds == 0 {
-        return 0;
+    if most_holds(state) < holds {
+        return 1;
     }
-    1
+    0
 }
 
-// Whether the states and the holds of all pieces are well.
-fn all_held(n: usize, states: &[u8], holds: &[u16]) -> bool
-    requires { ⌜ (n ≤ 1024) × (length (now states) ≡ n) × (length (now holds) ≡ n) ⌝ }
-    ensures { λ r. ⌜ Truthful (Below (HeldWell (now (states .entry)) (now (holds .entry))) n) r ⌝ }
+// How many of the `size` pieces from `from` on have states or holds that are not well.
+fn held_faults(states: &[u8], holds: &[u16], from: usize, size: usize) -> u16
+    requires { ⌜ (size ≤ 1024) × (from + size ≤ length (now states)) × (from + size ≤ length (now holds)) ⌝ }
+    ensures { λ r. ⌜ Faults (Below (λ i. HeldWell (now (states .entry)) (now (holds .entry)) (from + i)) size) size r ⌝ }
+{
+    let mut faults: u16 = 0;
+    let mut i: usize = 0;
+    while i < size {
+        faults = faults + holds_fault(states[from + i], holds[from + i]);
+        i += 1;
+    }
+    faults
+}
+
+// Sets `size` entries from `from` on to 0.
+fn zero(work: &mut [u32], from: usize, size: usize)
+    requires { ⌜ from + size ≤ length (now work) ⌝ }
+    ensures { λ _. ⌜ Zeroed from (from + size) (now (work .entry)) (now (work .exit)) ⌝ }
+{
+    let mut i: usize = 0;
+    while i < size {
+        work[from + i] = 0;
+        i += 1;
+    }
+}
+
+// Sets what the walks read of the `size` pieces from `from` on to 0: marks, next places, what is counted and what is added up.
+fn zero_pieces(n: usize, work: &mut [u32], from: usize, size: usize)
+    requires { ⌜ (n ≤ 1024) × (8 * n ≤ length (now work)) × (from + size ≤ n) ⌝ }
+    ensures { λ _. ⌜ PiecesZeroed n from (from + size) (now (work .entry)) (now (work .exit)) ⌝ }
+{
+    zero(work, from, size);
+    zero(work, n + from, size);
+    zero(work, 6 * n + from, size);
+    zero(work, 7 * n + from, size);
+}
+
+// Whether the states and the holds of all pieces are well. The same pass sets what the walks read to 0, by blocks of 64 pieces, so that both compile to vector instructions of full width.
+fn all_held(n: usize, states: &[u8], holds: &[u16], work: &mut [u32]) -> bool
+    requires { ⌜ (n ≤ 1024) × (length (now states) ≡ n) × (length (now holds) ≡ n) × (8 * n ≤ length (now work)) ⌝ }
+    ensures { λ r. ⌜ Truthful (Below (HeldWell (now (states .entry)) (now (holds .entry))) n) r × PiecesZeroed n 0 n (now (work .entry)) (now (work .exit)) ⌝ }
 {
     let mut faults: u16 = 0;
     let mut p = 0;
-    while p < n {
-        faults = faults + holds_fault(states[p], holds[p]);
-        p += 1;
+    while 64 <= n - p {
+        faults = faults + held_faults(states, holds, p, 64);
+        zero_pieces(n, work, p, 64);
+        p += 64;
     }
-    faults == 0
+    let last = held_faults(states, holds, p, n - p);
+    zero_pieces(n, work, p, n - p);
+    faults + last == 0
 }
 
 // The label of a piece: its leader, and its own number if it has none.
@@ -179,7 +226,7 @@ fn links_well(
     )
 }
 
-// Whether the links of all pieces are well. If they are, their holds and their links are counted, into entries that are set to 0 first.
+// Whether the links of all pieces are well. If they are, their holds and their links are counted, into entries that are 0.
 fn all_linked(
     n: usize,
     states: &[u8],
@@ -191,7 +238,6 @@ fn all_linked(
     requires { ⌜ TablesGiven n (now states) (now links) (now leaders) (now holds) (now counts) ⌝ }
     ensures { λ r. ⌜ AllTested n (now (states .entry)) (now (links .entry)) (now (leaders .entry)) (now (holds .entry)) (now (counts .entry)) (now (counts .exit)) r ⌝ }
 {
-    areas::fill_u32(counts, n, 0);
     let mut p = 0;
     while p < n {
         add_hold(n, leaders, holds, counts, p);
@@ -310,7 +356,7 @@ fn counts_found(n: usize, leaders: &[u16], counts: &[u32], into: &[u16], work: &
     faults == 0
 }
 
-// Whether the tables are sound and the links into each draft right. The first 8N entries of work may hold anything, before and after; later ones are unchanged.
+// Whether the tables are sound and the links into each draft right. Work may hold anything; if they are its eighth region is 0 afterwards, and what is behind the first 8N entries is unchanged.
 pub fn is_sound(
     n: usize,
     states: &[u8],
@@ -324,9 +370,9 @@ pub fn is_sound(
     requires { ⌜ Sized (tablesOf n (now states) (now links) (now leaders) (now holds) (now counts)) × (length (now into) ≡ n) × (8 * n ≤ length (now work)) ⌝ }
     ensures { λ r. ⌜ (r ≡ (isSound (tablesOf n (now (states .entry)) (now (links .entry)) (now (leaders .entry)) (now (holds .entry)) (now (counts .entry))) &
         intoRight (baseOf n (now (states .entry)) (now (links .entry)) (now (holds .entry))) (now (into .entry)))) ×
-        LaterSame (8 * n) (now (work .entry)) (now (work .exit)) ⌝ }
+        LaterSame (8 * n) (now (work .entry)) (now (work .exit)) × (r ≡ true → SumsZero n (now (work .exit))) ⌝ }
 {
-    if !all_held(n, states, holds) {
+    if !all_held(n, states, holds, work) {
         return false;
     }
     if !count_up(n, states, links, leaders, holds, work) {

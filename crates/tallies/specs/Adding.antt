@@ -5,7 +5,7 @@ use mathlib.Core.List.{List}
 use Prim.Native.Nat.{ℕ, _+_, _-_, _≤_, _<_}
 use native.Mathlib.Omega.{arith}
 use lib.ListN.{length, set, length-set, drop}
-use lib.Seq.{drop-set-lt, drop-drop}
+use lib.Seq.{drop-set-lt, drop-drop, getD-drop}
 use Rattle.rules.specs.Lists.{_!_}
 use Rattle.rules.specs.Limits.{none}
 use Rattle.laws.specs.Numbers.{set-cases}
@@ -45,6 +45,10 @@ later-on {n} m {c} {c′} h x = record { size = x .size; later = behind c′ ∙
   where
     behind : (l : List ℕ) → drop m l ≡ drop (m - n) (drop n l)
     behind l = let e : m ≡ n + (m - n) = omega arith in ap (λ (k : ℕ). drop k l) e ∙ sym (drop-drop (m - n) n l)
+
+-- an entry behind them is the same
+pub later-at : {n : ℕ} {c c′ : List ℕ} → LaterSame n c c′ → (i : ℕ) → c′ ! (n + i) ≡ c ! (n + i)
+later-at {n} {c} {c′} x i = sym (getD-drop n c′ i 0) ∙ ap (λ (l : List ℕ). l ! i) (x .later) ∙ getD-drop n c i 0
 
 -- each count below n has f of its label more
 pub record Added (n : ℕ) (f : ℕ → ℕ) (c c′ : List ℕ) : Type 0 where

@@ -3,6 +3,7 @@ pub mod Tally
 pub mod Moves
 pub mod Exact
 pub mod Adding
+pub mod Parts
 pub mod Places
 pub mod Finished
 pub mod Stores

@@ -1,4 +1,4 @@
--- `sound::all_linked` meets its contract: the counts are set to 0; the links of the pieces below p are well, and these pieces are counted. Assumes nothing.
+-- `sound::all_linked` meets its contract: the links of the pieces below p are well, and these pieces are counted. Assumes nothing.
 use mathlib.Core.Path.{_∙_}
 use Prim.Native.Nat.{_-_}
 use native.Mathlib.Omega.{arith}
@@ -12,36 +12,31 @@ Inv-loop n states links leaders holds counts₀ p₀ counts p = PiecesTested n s
 abbrev μ-loop : tie.MeasureT-loop
 μ-loop n states links leaders holds counts₀ p₀ counts p = n - p
 
-fill-u32-requires : tie.Need-fill-u32-requires Inv-loop μ-loop
-fill-u32-requires c κs = omega (arith, c .before .before .before .before .before .before .pre .labelled .counts-n)
-
 loop-holds : tie.Need-loop-holds Inv-loop μ-loop
 loop-holds c = pieces-start
 
 add-hold-requires : tie.Need-add-hold-requires Inv-loop μ-loop
 add-hold-requires c κs =
     let looped = c .before .before in
-    let set = looped .before .before .before in
-    let known = set .before .before .before in
+    let known = looped .before .before in
     let start = known .before .before .before .before in
-    hold-given (start .pre) (set .fill-u32 .ensures) (looped .loop .inv) (λ q. omega (arith, known .shared-slice-known4 .given q)) (c .before .loop-test .taken)
+    hold-given (start .pre) (looped .loop .inv) (λ q. omega (arith, known .shared-slice-known4 .given q)) (c .before .loop-test .taken)
 
 links-well-requires : tie.Need-links-well-requires Inv-loop μ-loop
 links-well-requires c κs =
     let held = c .before .before .before in
     let turn = held .before .before in
     let looped = turn .before in
-    let set = looped .before .before .before in
-    let known = set .before .before .before in
+    let known = looped .before .before in
     let start = known .before .before .before .before in
-    piece-given (start .pre) (set .fill-u32 .ensures) (looped .loop .inv) (λ q. omega (arith, known .shared-slice-known4 .given q)) (turn .loop-test .taken) (held .add-hold .ensures)
+    piece-given (start .pre) (looped .loop .inv) (λ q. omega (arith, known .shared-slice-known4 .given q)) (turn .loop-test .taken) (held .add-hold .ensures)
 
 same-length : tie.Need-same-length Inv-loop μ-loop
 same-length c =
     let tested = c .before .before .before in
     let held = tested .before .before .before .before in
     let looped = held .before .before .before in
-    tested .links-well .ensures .kept .size ∙ held .add-hold .ensures .added .size ∙ looped .loop .inv .counted .added .size ∙ looped .before .before .before .fill-u32 .kept .0
+    tested .links-well .ensures .kept .size ∙ held .add-hold .ensures .added .size ∙ looped .loop .inv .counted .added .size
 
 returns : tie.Need-returns Inv-loop μ-loop
 returns c =
@@ -49,14 +44,13 @@ returns c =
     let held = tested .before .before .before .before in
     let turn = held .before .before in
     let looped = turn .before in
-    let set = looped .before .before .before in
-    let given = set .before .before .before .before .before .before .before .pre in
-    piece-wrong given (set .fill-u32 .ensures) (looped .loop .inv) (turn .loop-test .taken) (held .add-hold .ensures) (tested .links-well .ensures) (c .if1 .taken)
+    let start = looped .before .before .before .before .before .before in
+    piece-wrong (start .pre) (looped .loop .inv) (turn .loop-test .taken) (held .add-hold .ensures) (tested .links-well .ensures) (c .if1 .taken)
 
 add-p : tie.Need-add-p Inv-loop μ-loop
 add-p c =
     let turn = c .before .before .before .before .before .before .before .before .before in
-    let start = turn .before .before .before .before .before .before .before .before .before .before .before in
+    let start = turn .before .before .before .before .before .before .before in
     omega (arith, start .pre .labelled .small, turn .loop-test .taken)
 
 loop-less : tie.Need-loop-less Inv-loop μ-loop
@@ -68,17 +62,16 @@ loop-again c =
     let held = tested .before .before .before .before in
     let turn = held .before .before in
     let looped = turn .before in
-    let set = looped .before .before .before in
-    let given = set .before .before .before .before .before .before .before .pre in
-    piece-well given (set .fill-u32 .ensures) (looped .loop .inv) (turn .loop-test .taken) (held .add-hold .ensures) (tested .links-well .ensures) (c .if1 .left)
+    let start = looped .before .before .before .before .before .before in
+    piece-well (start .pre) (looped .loop .inv) (turn .loop-test .taken) (held .add-hold .ensures) (tested .links-well .ensures) (c .if1 .left)
 
 same-length-2 : tie.Need-same-length-2 Inv-loop μ-loop
-same-length-2 c = c .before .loop .inv .counted .added .size ∙ c .before .before .before .before .fill-u32 .kept .0
+same-length-2 c = c .before .loop .inv .counted .added .size
 
 returns-2 : tie.Need-returns-2 Inv-loop μ-loop
 returns-2 c =
-    let set = c .before .before .before .before in
-    pieces-all (set .before .before .before .before .before .before .before .pre) (set .fill-u32 .ensures) (c .before .loop .inv) (c .loop-test .left)
+    let start = c .before .before .before .before .before .before .before in
+    pieces-all (start .pre) (c .before .loop .inv) (c .loop-test .left)
 
 pub all-linked-spec : {M : Type 1} → statement M
 all-linked-spec =
@@ -86,7 +79,6 @@ all-linked-spec =
     (tie.spec
     Inv-loop
     μ-loop
-    fill-u32-requires
     loop-holds
     add-hold-requires
     links-well-requires
