@@ -8,11 +8,10 @@ use lib.Seq.{length-take-le, paste, take-paste}
 use Rattle.rules.specs.Words.{SizedStore}
 use Rattle.rules.specs.Tables.{Store}
 use Rattle.rules.specs.Trace.{linesFrom, outputOf}
-use Rattle.lines.specs.Ending.{Closed}
 use Rattle.chunks.specs.Says.{Says, says-none, says-more}
 use Rattle.reader.specs.Answered.{Stands}
 use Rattle.answers.specs.Wrote.{longest}
-use Rattle.reader.specs.Fed.{Feeding, Stopped, part-closed, fed-inside, fed-exact, fed-on}
+use Rattle.reader.specs.Fed.{Feeding, Stopped, fed-on}
 use Rattle.lending.specs.declared.Place.{Place}
 use Rattle.lending.specs.declared.Place.the-variants.{Full, Written}
 
@@ -55,34 +54,25 @@ pouring-none {n} {s} {text} {l} {w} {room} {start} st h = record {
 
 module _ {n : ℕ} {s₀ : Store} {text room₀ : List ℕ} {start : ℕ} {s : Store} {l w room : List ℕ} {at size low : ℕ}
     (f : Pouring n s₀ text room₀ start s l w room at size low) where
-  -- what is left of the text ends as the text does
-  pub pouring-closed : Closed text → Closed (take (length text - at) (drop at text))
-  pouring-closed c = part-closed text at c
-
   -- all of it is answered
   pub pouring-all : length text ≤ at → Poured n s₀ text room₀ start s l w room (Written size low)
   pouring-all h = record {
     is = (f .stands, subst (λ (t : List ℕ). Holds s₀ text room₀ start s t room size) (drop-of-length-le text {i = at} h) (f .holds));
   }
 
-  module _ (less : at < length text) {s′ : Store} {l′ w′ out : List ℕ} {taken k low′ : ℕ}
-      (g : Feeding n s (take (length text - at) (drop at text)) s′ l′ w′ out taken k low′) where
-    pub pouring-inside : at + taken ≤ length text
-    pouring-inside = fed-inside text at less g
+  module _ {s′ : Store} {l′ w′ out : List ℕ} {next k low′ : ℕ} (g : Feeding n s text at s′ l′ w′ out next k low′) where
+    -- some of what is left is taken
+    pub pouring-less : at < length text → longest ≤ length out → Stopped text out next k → length text - next < length text - at
+    pouring-less less room stop = omega (arith, g .inside, fed-on g less room stop)
 
-    -- some of it is taken
-    pub pouring-less : longest ≤ length out → Stopped (take (length text - at) (drop at text)) out taken k
-        → length text - (at + taken) < length text - at
-    pouring-less room stop = omega (arith, pouring-inside, fed-on text at less g room stop)
-
-    says : Says s₀ text (f .holds .said ++ take k out) s′ (drop (at + taken) text)
-    says = says-more (f .holds .says) (record { exact = fed-exact text at less g })
+    says : Says s₀ text (f .holds .said ++ take k out) s′ (drop next text)
+    says = says-more (f .holds .says) (record { exact = g .exact })
 
     -- these answers do not fit
     pub pouring-over : length room - size < k → {s″ : Store} {l″ w″ room″ : List ℕ} → Poured n s₀ text room₀ start s″ l″ w″ room″ Full
     pouring-over over = record {
       is = λ rest.
-          let o : List ℕ = outputOf s′ (linesFrom [] (drop (at + taken) text ++ rest)) in
+          let o : List ℕ = outputOf s′ (linesFrom [] (drop next text ++ rest)) in
           let said : List ℕ = f .holds .said in
           omega (
             arith,
@@ -100,12 +90,12 @@ module _ {n : ℕ} {s₀ : Store} {text room₀ : List ℕ} {start : ℕ} {s : S
 
     -- they do
     pub pouring-more : k ≤ length room - size → {room′ : List ℕ} → length room′ ≡ length room → room′ ≡ paste room size out k
-        → Pouring n s₀ text room₀ start s′ l′ w′ room′ (at + taken) (size + k) low′
+        → Pouring n s₀ text room₀ start s′ l′ w′ room′ next (size + k) low′
     pouring-more fits {room′} len e = record {
       sized = f .sized;
       same = len ∙ f .same;
       begins = f .begins;
-      inside = pouring-inside;
+      inside = g .inside;
       stands = g .stands;
       holds = record {
         place = omega (arith, f .holds .place);

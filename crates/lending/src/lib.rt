@@ -86,7 +86,8 @@ fn pour(
     let mut low = from;
     while at < text.len() {
         let fed = reader::feed(
-            &text[at..],
+            text,
+            at,
             n,
             states,
             links,
@@ -106,7 +107,7 @@ fn pour(
         }
         copy(room, size, out, k);
         size += k;
-        at += fed.taken;
+        at = fed.taken;
         low = fed.from;
     }
     Place::Written {

@@ -2,40 +2,43 @@
 use mathlib.Core.Path.{_≡_, refl, sym, ap, _∙_, subst}
 use mathlib.Core.Logic.{_⊎_, ⊎-elim}
 use mathlib.Core.List.{List, [], _∷_, _++_, append-assoc}
-use Prim.Native.Nat.{ℕ, zero, suc, _+_, _-_, _≤_, _<_}
+use Prim.Native.Nat.{ℕ, _+_, _≤_, _<_}
 use native.Mathlib.Omega.{arith}
-use lib.ListN.{length, take, drop, length-append, length-drop}
-use lib.Seq.{sets-eq, take-append-seam, take-all, drop-drop, length-take-le}
+use lib.ListN.{length, take, drop, length-append}
+use lib.Seq.{sets-eq, take-append-seam, length-take-le}
 use Rattle.rules.specs.Tables.{Store}
+use Rattle.laws.specs.Numbers.{lt-or}
 use Rattle.rules.specs.Trace.{linesFrom, says, answerTo, storeAfter, outputOf, badLine}
 use Rattle.rules.specs.declared.Command.{Command}
 use Rattle.rules.specs.declared.Line.{Line}
 use Rattle.rules.specs.declared.Line.the-variants.{Does}
-use Rattle.lines.specs.Ending.{Closed, Reads}
+use Rattle.lines.specs.Ending.{Reads}
 use Rattle.lines.specs.declared.Found.{Found}
 use Rattle.lines.specs.declared.Found.the-variants.{Other}
 use Rattle.chunks.specs.Chunks.{lines-part, lines-end}
 use Rattle.answers.specs.Wrote.{longest, Wrote}
 use Rattle.reader.specs.Answered.{Stands, Answered, bad-answered}
-use Rattle.reader.specs.Lines.{LineEnd, OneLine, RightLine, line-at, bad-at, closed-drop}
+use Rattle.reader.specs.Lines.{LineEnd, OneLine, RightLine, line-at, bad-at}
 
--- `taken` bytes of the text are answered by the first `written` bytes of out, and the store stands
-pub record Feeding (n : ℕ) (s : Store) (text : List ℕ) (s′ : Store) (l′ w′ out′ : List ℕ) (taken written from : ℕ) : Type 0 where
-  pub inside : taken ≤ length text
+-- the bytes of the text from `start` up to `at` are answered by the first `written` bytes of out, and the store stands
+pub record Feeding (n : ℕ) (s : Store) (text : List ℕ) (start : ℕ) (s′ : Store) (l′ w′ out′ : List ℕ) (at written from : ℕ) : Type 0 where
+  pub after : start ≤ at
+  pub inside : at ≤ length text
   pub room : written ≤ length out′
-  pub none : taken ≡ 0 → written ≡ 0
+  pub none : at ≡ start → written ≡ 0
   pub stands : Stands n s′ l′ w′ from
   pub exact : (rest : List ℕ)
-      → outputOf s (linesFrom [] (text ++ rest)) ≡ take written out′ ++ outputOf s′ (linesFrom [] (drop taken text ++ rest))
+      → outputOf s (linesFrom [] (drop start text ++ rest)) ≡ take written out′ ++ outputOf s′ (linesFrom [] (drop at text ++ rest))
 
 -- the whole text is answered, or there is no room for the longest line
 abbrev pub Stopped : List ℕ → List ℕ → ℕ → ℕ → Type 0
-Stopped text out taken written = (taken ≡ length text) ⊎ (length out < written + longest)
+Stopped text out at written = (at ≡ length text) ⊎ (length out < written + longest)
 
 -- ---- laws
 
-pub feeding-none : {n : ℕ} {s : Store} {text l w out : List ℕ} {from : ℕ} → Stands n s l w from → Feeding n s text s l w out 0 0 from
-feeding-none stands = record { inside = omega arith; room = omega arith; none = λ _. refl; stands = stands; exact = λ rest. refl }
+pub feeding-none : {n : ℕ} {s : Store} {text l w out : List ℕ} {start from : ℕ} → start ≤ length text → Stands n s l w from
+    → Feeding n s text start s l w out start 0 from
+feeding-none h stands = record { after = omega arith; inside = h; room = omega arith; none = λ _. refl; stands = stands; exact = λ rest. refl }
 
 -- what was written before stands in front of the bytes that are written
 pub wrote-front : {out bytes out′ : List ℕ} {at next : ℕ} → Wrote out at bytes out′ next → next ≤ length out → take next out′ ≡ take at out ++ bytes
@@ -63,15 +66,16 @@ one-line {text} {line} {at} {next} o s rest =
     ∙ ap (outputOf s) (lines-part [] line (10 ∷ (drop next text ++ rest)) (o .unended) ∙ lines-end line (drop next text ++ rest))
 
 -- one line more
-feeding-more : {text line : List ℕ} {at next : ℕ} {n : ℕ} {s₀ s s′ : Store} {l l′ w w′ out out′ : List ℕ} {written written′ from from′ : ℕ} {said : Line}
-    → OneLine text at next line → says line ≡ said → Feeding n s₀ text s l w out at written from → written + longest ≤ length out
+feeding-more : {text line : List ℕ} {start at next : ℕ} {n : ℕ} {s₀ s s′ : Store} {l l′ w w′ out out′ : List ℕ} {written written′ from from′ : ℕ} {said : Line}
+    → OneLine text at next line → says line ≡ said → Feeding n s₀ text start s l w out at written from → written + longest ≤ length out
     → length out′ ≡ length out → Answered n s said out written s′ l′ w′ out′ written′ from′
-    → Feeding n s₀ text s′ l′ w′ out′ next written′ from′
-feeding-more {text} {line} {next = next} {n} {s = s} {s′} {l′ = l′} {w′ = w′} {out} {out′} {written} {written′} {from′ = from′} o e f room len b =
+    → Feeding n s₀ text start s′ l′ w′ out′ next written′ from′
+feeding-more {text} {line} {start} {next = next} {n} {s = s} {s′} {l′ = l′} {w′ = w′} {out} {out′} {written} {written′} {from′ = from′} o e f room len b =
     record {
+      after = omega (arith, f .after, o .less);
       inside = o .inside;
       room = let x = a .few in omega arith;
-      none = λ x. absurd (let y = o .less in omega arith);
+      none = λ x. absurd (omega (arith, f .after, o .less));
       stands = a .stands;
       exact = λ rest.
           f .exact rest ∙ ap (λ (t : List ℕ). take written out ++ t) (one-line o s rest)
@@ -87,45 +91,17 @@ feeding-more {text} {line} {next = next} {n} {s = s} {s′} {l′ = l′} {w′ 
     later t rest = outputOf t (linesFrom [] (drop next text ++ rest))
 
 -- a right line more, or a bad one
-module _ {n : ℕ} {s₀ s : Store} {text l w out : List ℕ} {at written from : ℕ} (f : Feeding n s₀ text s l w out at written from) (room : written + longest ≤ length out) where
+module _ {n : ℕ} {s₀ s : Store} {text l w out : List ℕ} {start at written from : ℕ} (f : Feeding n s₀ text start s l w out at written from) (room : written + longest ≤ length out) where
   pub feeding-right : {c : Command} {s′ : Store} {l′ w′ out′ : List ℕ} {next written′ from′ : ℕ} → RightLine text at next c → length out′ ≡ length out
-      → Answered n s (Does c) out written s′ l′ w′ out′ written′ from′ → Feeding n s₀ text s′ l′ w′ out′ next written′ from′
+      → Answered n s (Does c) out written s′ l′ w′ out′ written′ from′ → Feeding n s₀ text start s′ l′ w′ out′ next written′ from′
   feeding-right x len a = feeding-more (x .one) (x .says-is) f room len a
 
   pub feeding-bad : {r : Found} {out′ : List ℕ} {end written′ : ℕ} → Reads text at r → r ≡ Other → LineEnd text at end → length out′ ≡ length out
-      → Wrote out written badLine out′ written′ → Feeding n s₀ text s l w out′ (end + 1) written′ from
+      → Wrote out written badLine out′ written′ → Feeding n s₀ text start s l w out′ (end + 1) written′ from
   feeding-bad h x e len b = feeding-more (line-at e) (bad-at e h x) f room len (bad-answered (f .stands) b)
 
--- ---- a text that is fed part by part: the part from a place to its end
-
-part-is : (text : List ℕ) (at : ℕ) → take (length text - at) (drop at text) ≡ drop at text
-part-is text at = take-all (length text - at) (drop at text) (omega (arith, length-drop at text))
-
-pub part-closed : (text : List ℕ) (at : ℕ) → Closed text → Closed (take (length text - at) (drop at text))
-part-closed text at c = subst Closed (sym (part-is text at)) (closed-drop text at c)
-
-module _ (text : List ℕ) (at : ℕ) (l : at < length text) {n : ℕ} {s s′ : Store} {l′ w′ out : List ℕ} {taken written from : ℕ}
-    (f : Feeding n s (take (length text - at) (drop at text)) s′ l′ w′ out taken written from) where
-  pub fed-inside : at + taken ≤ length text
-  fed-inside = omega (arith, subst (λ (t : List ℕ). taken ≤ length t) (part-is text at) (f .inside), length-drop at text)
-
-  pub fed-exact : (rest : List ℕ)
-      → outputOf s (linesFrom [] (drop at text ++ rest)) ≡ take written out ++ outputOf s′ (linesFrom [] (drop (at + taken) text ++ rest))
-  fed-exact rest =
-      subst Exact (part-is text at) (f .exact rest)
-      ∙ ap (λ (t : List ℕ). take written out ++ outputOf s′ (linesFrom [] (t ++ rest))) (drop-drop taken at text)
-    where
-      Exact : List ℕ → Type 0
-      Exact t = outputOf s (linesFrom [] (t ++ rest)) ≡ take written out ++ outputOf s′ (linesFrom [] (drop taken t ++ rest))
-
-  -- each time some of the text is taken
-  pub fed-on : longest ≤ length out → Stopped (take (length text - at) (drop at text)) out taken written → 0 < taken
-  fed-on room stop =
-      ⊎-elim
-      (λ e. let x : taken ≡ length (drop at text) = e ∙ ap length (part-is text at) in omega (arith, length-drop at text))
-      (λ e. some taken e (f .none))
-      stop
-    where
-      some : (t : ℕ) → length out < written + longest → (t ≡ 0 → written ≡ 0) → 0 < t
-      some zero e h = absurd (let x : written ≡ 0 = h refl in omega arith)
-      some (suc t) e h = omega arith
+-- each time some of the text is taken
+pub fed-on : {n : ℕ} {s s′ : Store} {text l′ w′ out : List ℕ} {start at written from : ℕ} → Feeding n s text start s′ l′ w′ out at written from
+    → start < length text → longest ≤ length out → Stopped text out at written → start < at
+fed-on {start = start} {at} {written} f l room stop =
+    ⊎-elim (λ e. omega arith) (λ e. ⊎-elim (λ h. h) (λ h. absurd (omega (arith, f .none (omega (arith, f .after))))) (lt-or start at)) stop

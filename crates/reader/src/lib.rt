@@ -1,6 +1,5 @@
 // The trace reader: a line in, a line out, on tables that are sound by proof.
 ghost use mathlib.Core.Path.{_≡_};
-ghost use mathlib.Core.Bool.{false};
 ghost use Prim.Native.Nat.{_+_, _≤_, _<_};
 ghost use lib.Dec.{eqb};
 ghost use lib.ListN.{length};
@@ -15,12 +14,15 @@ ghost use Rattle.answers.specs.Wrote.{longest, Wrote};
 ghost use Rattle.answers.specs.Replies.{replyLine};
 ghost use Rattle.reader.specs.Answered.{Answered};
 ghost use Rattle.reader.specs.Lines.{NoEnd, LineEnd, Whole};
+ghost use Rattle.reader.specs.Blocks.{Back};
 ghost use Rattle.reader.specs.Fed.{Feeding, Stopped};
 ghost use Rattle.reader.specs.Ended.{Totalled, LastLine};
 use lines::Found;
 use obeying::Reply;
 use rules::Command;
 use rules::Store;
+
+mod blocks;
 
 // Where the output goes on, and a number below which nothing is free.
 pub struct Step {
@@ -92,82 +94,56 @@ pub struct Fed {
     pub from: usize,
 }
 
-// Whether one of the bytes of the block of this size from a place on ends a line.
-fn ends(text: &[u8], at: usize, size: usize) -> bool
-    requires { ⌜ at + size ≤ length (now text) ⌝ }
-    ensures { λ r. ⌜ (r ≡ false → NoEnd (now (text .entry)) at (at + size)) ⌝ }
-{
-    let mut found = false;
-    let mut i: usize = 0;
-    while i < size {
-        if text[at + i] == 10 {
-            found = true;
-        }
-        i += 1;
-    }
-    found
-}
-
-// Passes blocks of this size in which no line ends.
-fn pass(text: &[u8], at: usize, size: usize) -> usize
-    requires { ⌜ (at < length (now text)) × (1 ≤ size) × Closed (now text) ⌝ }
-    ensures { λ r. ⌜ (at ≤ r) × (r < length (now (text .entry))) × NoEnd (now (text .entry)) at r ⌝ }
-{
-    let mut i = at;
-    while size <= text.len() - i {
-        if ends(text, i, size) {
-            return i;
-        }
-        i += size;
-    }
-    i
-}
-
-// Passes blocks of this size in which no line ends, back from a place behind which none does.
-fn pass_back(text: &[u8], from: usize, size: usize) -> usize
-    requires { ⌜ (from ≤ length (now text)) × (1 ≤ size) × NoEnd (now text) from (length (now text)) ⌝ }
-    ensures { λ r. ⌜ (r ≤ length (now (text .entry))) × NoEnd (now (text .entry)) r (length (now (text .entry))) ⌝ }
-{
-    let mut r = from;
-    while size <= r {
-        if ends(text, r - size, size) {
-            return r;
-        }
-        r -= size;
-    }
-    r
-}
-
-// Where the line that starts at a place ends: most end soon, so the first 16 bytes are looked at one by one.
-fn line_end(text: &[u8], at: usize) -> usize
+// Where the line that starts at a place ends, byte by byte.
+fn end_by_byte(text: &[u8], at: usize) -> usize
     requires { ⌜ (at < length (now text)) × Closed (now text) ⌝ }
     ensures { λ r. ⌜ LineEnd (now (text .entry)) at r ⌝ }
 {
     let mut i = at;
-    let mut k: usize = 0;
-    while k < 16 {
-        if text[i] == 10 {
-            return i;
-        }
+    while text[i] != 10 {
         i += 1;
-        k += 1;
     }
-    let far = pass(text, i, 256);
-    let near = pass(text, far, 64);
-    let mut j = pass(text, near, 16);
-    while text[j] != 10 {
-        j += 1;
-    }
-    j
+    i
 }
 
-// How many bytes the whole lines of a text are.
-pub fn whole(text: &[u8]) -> usize
-    ensures { λ r. ⌜ Whole (now (text .entry)) r ⌝ }
+// Where the line that starts at a place ends, most often in the next 64 bytes.
+fn near_end(text: &[u8], at: usize) -> usize
+    requires { ⌜ (at < length (now text)) × Closed (now text) ⌝ }
+    ensures { λ r. ⌜ LineEnd (now (text .entry)) at r ⌝ }
 {
-    let far = pass_back(text, text.len(), 256);
-    let mut r = pass_back(text, far, 16);
-    while 0 < r {
+    if 64 <= text.len() - at {
+        let first = blocks::first_end(text, at);
+        if first < 64 {
+            return at + first;
+        }
+    }
+    end_by_byte(text, at)
+}
+
+// Where the line that starts at a place ends, most often in the next 64 bytes. Further blocks begin at multiples of 64, as vectors lie best.
+fn line_end(text: &[u8], at: usize) -> usize
+    requires { ⌜ (at < length (now text)) × Closed (now text) ⌝ }
+    ensures { λ r. ⌜ LineEnd (now (text .entry)) at r ⌝ }
+{
+    if text.len() - at < 64 {
+        return end_by_byte(text, at);
+    }
+    let first = blocks::first_end(text, at);
+    if first < 64 {
+        return at + first;
+    }
+    let far = blocks::pass_high(text, 64 * (at / 64 + 1));
+    let near = blocks::pass(text, far, 64);
+    near_end(text, near)
+}
+
+// Back to the last byte that ends a line, byte by byte, to a place at most, from one behind which none does.
+fn back(text: &[u8], from: usize, to: usize) -> usize
+    requires { ⌜ (to ≤ from) × (from ≤ length (now text)) × NoEnd (now text) from (length (now text)) ⌝ }
+    ensures { λ r. ⌜ Back (now (text .entry)) to r ⌝ }
+{
+    let mut r = from;
+    while to < r {
         if text[r - 1] == 10 {
             return r;
         }
@@ -176,9 +152,35 @@ pub fn whole(text: &[u8]) -> usize
     r
 }
 
-// Answers the lines of a text whose last byte is 10, while out has room for the longest line.
+// How many bytes the whole lines of a text are. The first 16 are looked at by themselves: where they lie in the program's buffer is known, and so where all blocks lie.
+pub fn whole(text: &[u8]) -> usize
+    ensures { λ r. ⌜ Whole (now (text .entry)) r ⌝ }
+{
+    let many = text.len() / 512;
+    let edge = 512 * many;
+    let near = blocks::pass_back(text, text.len(), edge, 16);
+    let last = back(text, near, edge);
+    if edge < last {
+        return last;
+    }
+    let high = 512 * blocks::pass_back_high(text, many);
+    let far = blocks::pass_back(text, high, 0, 256);
+    if far < 16 {
+        return back(text, far, 0);
+    }
+    let front = blocks::pass_back(text, far, 16, 16);
+    if front == 16 {
+        if !blocks::ends(text, 0, 16) {
+            return 0;
+        }
+    }
+    back(text, front, 0)
+}
+
+// Answers the lines from a place on of a text whose last byte is 10, while out has room for the longest line.
 pub fn feed(
     text: &[u8],
+    start: usize,
     n: usize,
     states: &mut [u8],
     links: &mut [u16],
@@ -193,15 +195,15 @@ pub fn feed(
     out: &mut [u8],
 ) -> Fed
     requires { ⌜ Stands n (storeOf n (now states) (now links) (now leaders) (now holds) (now counts) (now register) (now into)) (now list) (now work) from
-        × Closed (now text) × (longest ≤ length (now out)) ⌝ }
+        × Closed (now text) × (start ≤ length (now text)) × (longest ≤ length (now out)) ⌝ }
     ensures { λ r. ⌜ Feeding n (storeOf n (now (states .entry)) (now (links .entry)) (now (leaders .entry)) (now (holds .entry)) (now (counts .entry)) (now (register .entry)) (now (into .entry)))
-        (now (text .entry))
+        (now (text .entry)) start
         (storeOf n (now (states .exit)) (now (links .exit)) (now (leaders .exit)) (now (holds .exit)) (now (counts .exit)) (now (register .exit)) (now (into .exit)))
         (now (list .exit)) (now (work .exit)) (now (out .exit)) (r .taken) (r .written) (r .from)
         × Stopped (now (text .entry)) (now (out .exit)) (r .taken) (r .written) ⌝ }
 {
     let most = out.len() - answers::LONGEST;
-    let mut at = 0;
+    let mut at = start;
     let mut written = 0;
     while at < text.len() {
         if most < written {

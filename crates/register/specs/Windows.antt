@@ -2,11 +2,11 @@
 use Rattle.register.specs.Order.{number-past, used-down, order-up, order-on}
 use Rattle.register.specs.Found.{Found, Used}
 use Rattle.register.specs.Halves.{before-true, before-false}
-use mathlib.Core.Path.{_≡_, sym, _∙_}
+use mathlib.Core.Path.{_≡_, sym, ap, _∙_, subst}
 use mathlib.Core.Logic.{⊎-elim}
 use mathlib.Core.Bool.{Bool, true, false}
 use mathlib.Core.List.{List}
-use Prim.Native.Nat.{ℕ, _+_, _-_, _*_, _≤_, _<_}
+use Prim.Native.Nat.{ℕ, _+_, _-_, _*_, _/_, _≤_, _<_}
 use native.Mathlib.Omega.{arith}
 use native.Mathlib.Nat.{le-refl}
 use borrow.Author.Tests.{ltb-true, ltb-false}
@@ -42,9 +42,15 @@ module _ {l : List ℕ} (o : Ordered l) {i : ℕ} (h : 0 < i) where
       off : ltb r k ≡ false → 0 < numberAt l i → k ≤ orderAt l i
       off t u = omega (arith, ltb-false r k t, w .some (omega (arith, order-up l o 0 i h u)))
 
-  pub up-to-ends : {k r : ℕ} → Ranked (order (getD l (3 * i) 0) (getD l (3 * i + 1) 0)) r → k ≤ 4294967295 → UpTo l k i (ltb r k)
+  up-to-line : {k r : ℕ} → Ranked (order (getD l (3 * i) 0) (getD l (3 * i + 1) 0)) r → k ≤ 4294967295 → UpTo l k i (ltb r k)
   unfolding seatAt pieceAt
-  up-to-ends w g = up-to w g
+  up-to-line w g = up-to w g
+
+-- the same of the line whose entries start at a place
+pub up-to-ends : {l : List ℕ} → Ordered l → {at k r : ℕ} → 0 < at → Ranked (order (getD l at 0) (getD l (at + 1) 0)) r → k ≤ 4294967295
+    → (i : ℕ) → at ≡ 3 * i → UpTo l k i (ltb r k)
+up-to-ends {l} o {at} {k} {r} h w g i e =
+    up-to-line o (omega arith) (subst (λ (a : ℕ). Ranked (order (getD l a 0) (getD l (a + 1) 0)) r) e w) g
 
 -- all used lines are among the first m
 pub record Among (l : List ℕ) (m : ℕ) : Type 0 where
@@ -71,6 +77,13 @@ pub record Window (l : List ℕ) (s p base size : ℕ) : Type 0 where
   pub most : base + size ≤ lines
   pub before : (i : ℕ) → i < base → (0 < numberAt l i) × (orderAt l i < order s p)
   pub past : (i : ℕ) → base + size ≤ i → 0 < numberAt l i → order s p ≤ orderAt l i
+
+-- the window whose entries start at `at`
+abbrev pub WindowAt : List ℕ → ℕ → ℕ → ℕ → ℕ → Type 0
+WindowAt l s p at size = (line : ℕ) × (at ≡ 3 * line) × Window l s p line size
+
+pub window-at : (l : List ℕ) {s p size : ℕ} (at line : ℕ) → at ≡ 3 * line → Window l s p line size → Window l s p (at / 3) size
+window-at l {s} {p} {size} at line e v = let x : line ≡ at / 3 = omega arith in subst (λ (i : ℕ). Window l s p i size) x v
 
 pub window-start : {l : List ℕ} {s p m : ℕ} → Among l m → Window l s p 0 m
 window-start a = record { some = a .some; most = omega (arith, a .most); before = λ i h. absurd (omega arith); past = λ i h u. absurd (omega (arith, a .past i (omega arith))) }
@@ -118,26 +131,48 @@ pub record Parted (l : List ℕ) (base size : ℕ) : Type 0 where
   pub before : (i : ℕ) → i < base → 0 < numberAt l i
   pub past : (i : ℕ) → base + size ≤ i → numberAt l i ≡ 0
 
+-- the window whose entries start at `at`
+abbrev pub PartedAt : List ℕ → ℕ → ℕ → Type 0
+PartedAt l at size = (line : ℕ) × (at ≡ 3 * line) × Parted l line size
+
 pub parted-start : {l : List ℕ} {m : ℕ} → Among l m → Parted l 0 m
 parted-start a = record { some = a .some; most = omega (arith, a .most); before = λ i h. absurd (omega arith); past = λ i h. a .past i (omega arith) }
 
 module _ {l : List ℕ} (o : Ordered l) where
-  module _ {base size : ℕ} (v : Parted l base size) {half : ℕ} (h : half + half ≤ size) (g : half < size) where
-    pub parted-up : (getD l (3 * (base + half) + 2) 0 ≡ 0 → ⊥) → Parted l (base + half) (size - half)
+  module _ {at base size : ℕ} (e : at ≡ 3 * base) (v : Parted l base size) {half : ℕ} (h : half + half ≤ size) (g : half < size) where
+    there : getD l (at + 3 * half + 2) 0 ≡ numberAt l (base + half)
     unfolding numberAt
-    parted-up d =
-        record { some = omega arith; most = omega (arith, v .most); before = λ i y. used-down l o i (base + half) (omega arith) (omega (arith, d)); past = λ i y. v .past i (omega arith) }
+    there = ap (λ (k : ℕ). getD l k 0) (let x : at + 3 * half + 2 ≡ 3 * (base + half) + 2 = omega arith in x)
 
-    pub parted-stay : getD l (3 * (base + half) + 2) 0 ≡ 0 → Parted l base (size - half)
-    unfolding numberAt
-    parted-stay t = record { some = omega arith; most = omega (arith, v .most); before = v .before; past = λ i y. unused-on o (base + half) i (omega arith) t }
+    pub parted-up : (getD l (at + 3 * half + 2) 0 ≡ 0 → ⊥) → PartedAt l (at + 3 * half) (size - half)
+    parted-up d = (
+      base + half,
+      omega arith,
+      record {
+        some = omega arith;
+        most = omega (arith, v .most);
+        before = λ i y. used-down l o i (base + half) (omega arith) (omega (arith, d, there));
+        past = λ i y. v .past i (omega arith);
+      },
+    )
 
-  module _ {base size : ℕ} (v : Parted l base size) (h : size ≤ 1) where
-    pub parted-here : getD l (3 * base + 2) 0 ≡ 0 → Used l base
-    unfolding numberAt
-    parted-here t = record { most = omega (arith, v .most); before = v .before; here = t }
+    pub parted-stay : getD l (at + 3 * half + 2) 0 ≡ 0 → PartedAt l at (size - half)
+    parted-stay t = (base, e, record { some = omega arith; most = omega (arith, v .most); before = v .before; past = λ i y. unused-on o (base + half) i (omega arith) (sym there ∙ t) })
 
-    pub parted-next : (getD l (3 * base + 2) 0 ≡ 0 → ⊥) → Used l (base + 1)
+  module _ {at base size : ℕ} (e : at ≡ 3 * base) (v : Parted l base size) (h : size ≤ 1) where
+    here : getD l (at + 2) 0 ≡ numberAt l base
     unfolding numberAt
-    parted-next d =
-        record { most = omega (arith, v .most, v .some); before = λ i y. used-down l o i base (omega arith) (omega (arith, d)); here = v .past (base + 1) (omega (arith, v .some)) }
+    here = ap (λ (k : ℕ). getD l (k + 2) 0) e
+
+    line : base ≡ at / 3
+    line = omega arith
+
+    pub parted-here : getD l (at + 2) 0 ≡ 0 → Used l (at / 3)
+    parted-here t = subst (Used l) line (record { most = omega (arith, v .most); before = v .before; here = sym here ∙ t })
+
+    pub parted-next : (getD l (at + 2) 0 ≡ 0 → ⊥) → Used l (at / 3 + 1)
+    parted-next d = subst (λ (i : ℕ). Used l (i + 1)) line (record {
+      most = omega (arith, v .most, v .some);
+      before = λ i y. used-down l o i base (omega arith) (omega (arith, d, here));
+      here = v .past (base + 1) (omega (arith, v .some));
+    })

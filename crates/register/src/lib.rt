@@ -32,15 +32,15 @@ fn order_of(seat: u16, piece: u16) -> u32
     65536 * s + p
 }
 
-// Whether line i is used and stands before the pair.
-fn is_before(register: &[u16], i: usize, pair: u32) -> bool
-    requires { ⌜ (length (now register) ≡ entries) × (i < lines) ⌝ }
-    ensures { λ r. ⌜ r ≡ isBefore (now (register .entry)) pair i ⌝ }
+// Whether the line whose entries start at a place is used and stands before the pair.
+fn is_before(register: &[u16], at: usize, pair: u32) -> bool
+    requires { ⌜ (length (now register) ≡ entries) × (at + 2 < entries) ⌝ }
+    ensures { λ r. ⌜ ((i : ℕ) → at ≡ 3 * i → r ≡ isBefore (now (register .entry)) pair i) ⌝ }
 {
-    if register[3 * i + 2] == 0 {
+    if register[at + 2] == 0 {
         return false;
     }
-    order_of(register[3 * i], register[3 * i + 1]) < pair
+    order_of(register[at], register[at + 1]) < pair
 }
 
 // Seat and piece as one number, less 1; the highest number for the zeros of an unused line.
@@ -54,34 +54,35 @@ fn rank_of(seat: u16, piece: u16) -> u32
     place - 1
 }
 
-// Whether line i, not the first, is used and not behind the pair: one comparison, as only the first used line may be zeros.
-fn is_up_to(register: &[u16], i: usize, pair: u32) -> bool
-    requires { ⌜ Ordered (now register) × (0 < i) × (i < lines) ⌝ }
-    ensures { λ r. ⌜ UpTo (now (register .entry)) pair i r ⌝ }
+// Whether the line whose entries start at a place, not the first, is used and not behind the pair: one comparison, as only the first used line may be zeros.
+fn is_up_to(register: &[u16], at: usize, pair: u32) -> bool
+    requires { ⌜ Ordered (now register) × (0 < at) × (at + 2 < entries) ⌝ }
+    ensures { λ r. ⌜ ((i : ℕ) → at ≡ 3 * i → UpTo (now (register .entry)) pair i r) ⌝ }
 {
-    rank_of(register[3 * i], register[3 * i + 1]) < pair
+    rank_of(register[at], register[at + 1]) < pair
 }
 
-// The line where the pair stands or would stand, where all used lines are among the first `many`.
+// The line where the pair stands or would stand, where all used lines are among the first `many`. The window goes by entries, three a line.
 fn find_among(register: &[u16], many: usize, seat: u16, piece: u16) -> usize
     requires { ⌜ Ordered (now register) × Among (now register) many ⌝ }
     ensures { λ r. ⌜ Found (now (register .entry)) seat piece r ⌝ }
 {
     let pair = order_of(seat, piece);
-    let mut base: usize = 0;
+    let mut at: usize = 0;
     let mut size = many;
     while 1 < size {
         let half = size / 2;
-        let middle = base + half;
+        let middle = at + 3 * half;
         size -= half;
         if is_up_to(register, middle, pair) {
-            base = middle;
+            at = middle;
         }
     }
-    if is_before(register, base, pair) {
-        return base + 1;
+    let line = at / 3;
+    if is_before(register, at, pair) {
+        return line + 1;
     }
-    base
+    line
 }
 
 // The line where the pair stands or would stand: the first that is unused or not before it. Few lines are halved less often.
@@ -109,20 +110,21 @@ fn used_among(register: &[u16], many: usize) -> usize
     requires { ⌜ Ordered (now register) × Among (now register) many ⌝ }
     ensures { λ r. ⌜ Used (now (register .entry)) r ⌝ }
 {
-    let mut base: usize = 0;
+    let mut at: usize = 0;
     let mut size = many;
     while 1 < size {
         let half = size / 2;
-        let middle = base + half;
+        let middle = at + 3 * half;
         size -= half;
-        if register[3 * middle + 2] != 0 {
-            base = middle;
+        if register[middle + 2] != 0 {
+            at = middle;
         }
     }
-    if register[3 * base + 2] == 0 {
-        return base;
+    let line = at / 3;
+    if register[at + 2] == 0 {
+        return line;
     }
-    base + 1
+    line + 1
 }
 
 // The number of used lines.

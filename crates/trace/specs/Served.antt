@@ -1,18 +1,17 @@
 -- The lines of a text are answered and written, as much at a time as out holds.
 use mathlib.Core.Path.{subst}
 use mathlib.Core.List.{List, [], _++_}
-use Prim.Native.Nat.{ℕ, _+_, _-_, _≤_, _<_}
+use Prim.Native.Nat.{ℕ, _-_, _≤_, _<_}
 use native.Mathlib.Omega.{arith}
 use lib.ListN.{length, take, drop, drop-of-length-le}
 use Rattle.rules.specs.Limits.{most}
 use Rattle.rules.specs.Tables.{Store}
 use Rattle.rules.specs.Words.{SizedStore}
 use Rattle.rules.specs.Calls.{ReadyStore}
-use Rattle.lines.specs.Ending.{Closed}
 use Rattle.chunks.specs.Says.{Says, says-none, says-more}
 use Rattle.answers.specs.Wrote.{longest}
 use Rattle.reader.specs.Answered.{Stands}
-use Rattle.reader.specs.Fed.{Feeding, Stopped, part-closed, fed-inside, fed-exact, fed-on}
+use Rattle.reader.specs.Fed.{Feeding, Stopped, fed-on}
 use Rattle.trace.specs.declared.Lines.{Lines}
 use Rattle.trace.specs.declared.Lines.the-variants.{Written, Unwritten}
 
@@ -43,28 +42,19 @@ pub serving-none : {s : Store} {text l w : List ℕ} {from : ℕ} → Stands mos
 serving-none st = record { sized = st .ready .sized; inside = omega arith; stands = st; said = []; says = says-none }
 
 module _ {s : Store} {text : List ℕ} {s₁ : Store} {l w : List ℕ} {at low : ℕ} (v : Serving s text s₁ l w at low) where
-  -- what is left of the text ends as the text does
-  pub serving-closed : Closed text → Closed (take (length text - at) (drop at text))
-  serving-closed c = part-closed text at c
-
-  module _ (less : at < length text) {s′ : Store} {l′ w′ out : List ℕ} {taken written from′ : ℕ}
-      (f : Feeding most s₁ (take (length text - at) (drop at text)) s′ l′ w′ out taken written from′) where
-    inside : at + taken ≤ length text
-    inside = fed-inside text at less f
-
-    -- some of it is taken
-    pub serving-less : longest ≤ length out → Stopped (take (length text - at) (drop at text)) out taken written
-        → length text - (at + taken) < length text - at
-    serving-less room stop = omega (arith, inside, fed-on text at less f room stop)
+  module _ {s′ : Store} {l′ w′ out : List ℕ} {next written from′ : ℕ} (f : Feeding most s₁ text at s′ l′ w′ out next written from′) where
+    -- some of what is left is taken
+    pub serving-less : at < length text → longest ≤ length out → Stopped text out next written → length text - next < length text - at
+    serving-less less room stop = omega (arith, f .inside, fed-on f less room stop)
 
     -- and answered
-    pub serving-more : Serving s text s′ l′ w′ (at + taken) from′
+    pub serving-more : Serving s text s′ l′ w′ next from′
     serving-more = record {
       sized = v .sized;
-      inside = inside;
+      inside = f .inside;
       stands = f .stands;
       said = v .said ++ take written out;
-      says = says-more (v .says) (record { exact = fed-exact text at less f });
+      says = says-more (v .says) (record { exact = f .exact });
     }
 
   -- all of it is taken

@@ -50,7 +50,8 @@ fn serve(
     let mut low = from;
     while at < text.len() {
         let fed = reader::feed(
-            &text[at..],
+            text,
+            at,
             Store::MOST,
             states,
             links,
@@ -65,7 +66,7 @@ fn serve(
             out,
         );
         let written = fed.written;
-        at += fed.taken;
+        at = fed.taken;
         low = fed.from;
         if !io::write_all(STDOUT_FILENO, &out[..written]) {
             return Lines::Unwritten;

@@ -4,7 +4,7 @@ use mathlib.Core.Path.{_≡_, refl}
 use native.Mathlib.Omega.{arith}
 use lib.ListN.{length}
 use Rattle.rules.specs.Tables.{storeOf}
-use Rattle.lending.specs.Poured.{Pouring, pouring-none, pouring-closed, pouring-all, pouring-inside, pouring-less, pouring-over, pouring-more}
+use Rattle.lending.specs.Poured.{Pouring, pouring-none, pouring-all, pouring-less, pouring-over, pouring-more}
 use Rattle.lending.proofs.pour.Statement.{statement}
 use Rattle.lending.proofs.pour.Tie as tie
 
@@ -23,7 +23,7 @@ abbrev μ-loop : tie.MeasureT-loop
 full : tie.Then1 Inv-loop μ-loop → tie.After-feed Inv-loop μ-loop
 full c = search
 
-went : tie.After-struct-known Inv-loop μ-loop → tie.After-feed Inv-loop μ-loop
+went : tie.After-slice-known22 Inv-loop μ-loop → tie.After-feed Inv-loop μ-loop
 went c = search
 
 entered : tie.After-feed Inv-loop μ-loop → tie.In-loop Inv-loop μ-loop
@@ -41,21 +41,12 @@ loop-holds c =
     let asked : tie.Start Inv-loop μ-loop = search in
     (pouring-none (asked .pre .0) (asked .pre .3), (refl, refl, refl))
 
-sub-feed : tie.Need-sub-feed Inv-loop μ-loop
-sub-feed c = omega (arith, c .before .loop .inv .0 .inside)
-
-part-feed-start : tie.Need-part-feed-start Inv-loop μ-loop
-part-feed-start c = omega (arith, c .before .loop .inv .0 .inside)
-
-part-feed-end : tie.Need-part-feed-end Inv-loop μ-loop
-part-feed-end c = omega (arith, c .before .loop .inv .0 .inside)
-
 feed-requires : tie.Need-feed-requires Inv-loop μ-loop
 unfolding asked
 feed-requires c κs =
     let before : tie.At-loop Inv-loop μ-loop = search in
     let inv = before .loop .inv in
-    (inv .0 .stands, pouring-closed (inv .0) (asked before .pre .1), omega (arith, inv, asked before .pre .2))
+    (inv .0 .stands, asked before .pre .1, inv .0 .inside, omega (arith, inv, asked before .pre .2))
 
 sub-if1 : tie.Need-sub-if1 Inv-loop μ-loop
 unfolding looped
@@ -65,7 +56,7 @@ sub-if1 c =
 
 returns : tie.Need-returns Inv-loop μ-loop
 unfolding full looped
-returns c = pouring-over (looped (full c) .loop .inv .0) (entered (full c) .loop-test .taken) (full c .feed .ensures .0) (c .if1 .taken)
+returns c = pouring-over (looped (full c) .loop .inv .0) (full c .feed .ensures .0) (c .if1 .taken)
 
 copy-requires : tie.Need-copy-requires Inv-loop μ-loop
 unfolding looped
@@ -81,15 +72,10 @@ add-size c =
     let fed = fits .before .before .before .before .before .before .before .before .before .before .before .before .before .before .before .before .before .before .before .before .before in
     omega (arith, fits .if1 .left, looped fed .loop .inv .0 .holds .place, looped fed .loop .inv .0 .same, asked (looped fed) .good)
 
-add-at : tie.Need-add-at Inv-loop μ-loop
-unfolding went looped asked
-add-at c =
-    omega (arith, pouring-inside (looped (went c) .loop .inv .0) (entered (went c) .loop-test .taken) (went c .feed .ensures .0), asked (looped (went c)) .good)
-
 loop-less : tie.Need-loop-less Inv-loop μ-loop
 unfolding went looped asked
 loop-less c =
-    pouring-less (looped (went c) .loop .inv .0) (entered (went c) .loop-test .taken) (went c .feed .ensures .0)
+    pouring-less (looped (went c) .loop .inv .0) (went c .feed .ensures .0) (entered (went c) .loop-test .taken)
     (omega (arith, went c .feed .kept, looped (went c) .loop .inv, asked (looped (went c)) .pre .2)) (went c .feed .ensures .1)
 
 loop-again : tie.Need-loop-again Inv-loop μ-loop
@@ -97,7 +83,7 @@ unfolding went looped
 loop-again c =
     let copied : tie.After-copy Inv-loop μ-loop = search in
     let fits : tie.Else1 Inv-loop μ-loop = search in (
-      pouring-more (looped (went c) .loop .inv .0) (entered (went c) .loop-test .taken) (went c .feed .ensures .0)
+      pouring-more (looped (went c) .loop .inv .0) (went c .feed .ensures .0)
           (fits .if1 .left) (copied .copy .kept .0) (copied .copy .ensures),
       omega (arith, went c .feed .kept, looped (went c) .loop .inv),
     )
@@ -112,9 +98,6 @@ pour-spec =
     Inv-loop
     μ-loop
     loop-holds
-    sub-feed
-    part-feed-start
-    part-feed-end
     feed-requires
     sub-if1
     (λ c. unfold full looped in (omega (arith, full c .feed .kept, looped (full c) .loop .inv)))
@@ -131,7 +114,6 @@ pour-spec =
     returns
     copy-requires
     add-size
-    add-at
     loop-less
     loop-again
     (λ c. omega (arith, c .before .loop .inv))

@@ -12,13 +12,13 @@ use Rattle.reader.proofs.feed.Statement.{statement}
 use Rattle.reader.proofs.feed.Tie as tie
 
 abbrev Inv-loop : tie.InvT-loop
-Inv-loop text n states₀ links₀ leaders₀ holds₀ counts₀ register₀ into₀ list₀ work₀ from₀ out₀ most at₀ written₀
+Inv-loop text start n states₀ links₀ leaders₀ holds₀ counts₀ register₀ into₀ list₀ work₀ from₀ out₀ most at₀ written₀
     states links leaders holds counts register into list work from out at written =
-    Feeding n (storeOf n states₀ links₀ leaders₀ holds₀ counts₀ register₀ into₀) text (storeOf n states links leaders holds counts register into) list work out at written from
+    Feeding n (storeOf n states₀ links₀ leaders₀ holds₀ counts₀ register₀ into₀) text start (storeOf n states links leaders holds counts register into) list work out at written from
     × (length list ≡ length list₀) × (length work ≡ length work₀) × (length out ≡ length out₀)
 
 abbrev μ-loop : tie.MeasureT-loop
-μ-loop text n states₀ links₀ leaders₀ holds₀ counts₀ register₀ into₀ list₀ work₀ from₀ out₀ most at₀ written₀
+μ-loop text start n states₀ links₀ leaders₀ holds₀ counts₀ register₀ into₀ list₀ work₀ from₀ out₀ most at₀ written₀
     states links leaders holds counts register into list work from out at written =
     length text - at
 
@@ -32,7 +32,7 @@ sub-most c = omega arith
 loop-holds : tie.Need-loop-holds Inv-loop μ-loop
 loop-holds c =
     let start : tie.Start Inv-loop μ-loop = search in
-    (feeding-none (start .pre .0), refl, refl, refl)
+    (feeding-none (start .pre .2) (start .pre .0), refl, refl, refl)
 
 returns : tie.Need-returns Inv-loop μ-loop
 returns c = (c .before .before .loop .inv .0, inr (omega (arith, c .before .before .loop .inv .3)))
@@ -65,7 +65,7 @@ loop-again c =
     let line = right-at (read .read .ensures) (told .command .given .1) (lent turn .pre .1) (read .before .before .loop-test .taken) in
     let inv = turn .loop .inv in
     let same = done .act .kept in
-    let more = feeding-right (inv .0) (omega (arith, read .before .if1 .left, inv .3, lent turn .pre .2)) line in
+    let more = feeding-right (inv .0) (omega (arith, read .before .if1 .left, inv .3, lent turn .pre .3)) line in
     (more (omega (arith, same)) (done .act .ensures), omega (arith, same, inv .1), omega (arith, same, inv .2), omega (arith, same, inv .3))
 
 enum-told : tie.Need-enum-told Inv-loop μ-loop
@@ -96,7 +96,7 @@ loop-again-2 c =
     let turn = read .before .before .before in
     let inv = turn .loop .inv in
     let len = written .put-bad .kept .0 in
-    let more = feeding-bad (inv .0) (omega (arith, read .before .if1 .left, inv .3, lent turn .pre .2)) (read .read .ensures) (told .enum-told .given .1) in
+    let more = feeding-bad (inv .0) (omega (arith, read .before .if1 .left, inv .3, lent turn .pre .3)) (read .read .ensures) (told .enum-told .given .1) in
     (more (ended .line-end .ensures) len (written .put-bad .ensures .0), inv .1, inv .2, len ∙ inv .3)
 
 returns-2 : tie.Need-returns-2 Inv-loop μ-loop

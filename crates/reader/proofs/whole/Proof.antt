@@ -1,67 +1,64 @@
--- `reader::whole` goes back to the last byte 10. Assumes nothing.
-use Prim.Native.Nat.{_≤_}
+-- `reader::whole` goes back to the last byte 10, passing blocks without one. Assumes nothing.
+use mathlib.Core.Path.{refl}
 use native.Mathlib.Omega.{arith}
 use native.Mathlib.Nat.{le-refl}
+use borrow.Author.Tests.{not-true}
 use denote.Ref.{now}
 use lib.ListN.{length}
-use Rattle.reader.specs.Lines.{NoEnd, no-end-none, no-end-back, whole-at, whole-none}
+use Rattle.reader.specs.Lines.{no-end-none, no-end-join, whole-at, whole-none}
+use Rattle.reader.specs.Blocks.{whole-back}
 use Rattle.reader.proofs.whole.Statement.{statement}
 use Rattle.reader.proofs.whole.Tie as tie
 
-abbrev Inv-loop : tie.InvT-loop
-Inv-loop text far r₀ r = (r ≤ length text) × NoEnd text r (length text)
+pass-back-requires : tie.Need-pass-back-requires
+pass-back-requires c κs = let text = now (c .before .args .text) in (omega arith, le-refl (length text), omega arith, no-end-none text (length text))
 
-abbrev μ-loop : tie.MeasureT-loop
-μ-loop text far r₀ r = r
+back-requires : tie.Need-back-requires
+back-requires c κs = c .pass-back .ensures
 
-pass-back-requires : tie.Need-pass-back-requires Inv-loop μ-loop
-pass-back-requires c κs = let text = now (c .before .args .text) in (le-refl (length text), omega arith, no-end-none text (length text))
+returns : tie.Need-returns
+returns c = let last = c .before .back .ensures in whole-at (omega arith) (last .inside) (last .is (c .if1 .taken)) (last .after)
 
-pass-back-requires-2 : tie.Need-pass-back-requires-2 Inv-loop μ-loop
-pass-back-requires-2 c κs = (c .pass-back .ensures .0, omega arith, c .pass-back .ensures .1)
+pass-back-high-requires : tie.Need-pass-back-high-requires
+pass-back-high-requires c κs = (omega arith, λ i a b. c .before .back .ensures .after i (omega (arith, c .before .back .ensures .most)) b)
 
-loop-holds : tie.Need-loop-holds Inv-loop μ-loop
-loop-holds c = c .pass-back2 .ensures
+pass-back-requires-2 : tie.Need-pass-back-requires-2
+pass-back-requires-2 c κs = (omega arith, c .pass-back-high .ensures .0, omega arith, c .pass-back-high .ensures .1)
 
-sub-if1 : tie.Need-sub-if1 Inv-loop μ-loop
-sub-if1 c = omega arith
+back-requires-2 : tie.Need-back-requires-2
+back-requires-2 c κs = c .before .pass-back2 .ensures
 
-shared-slice-read-if1 : tie.Need-shared-slice-read-if1 Inv-loop μ-loop
-shared-slice-read-if1 c = omega arith
+pass-back-requires-3 : tie.Need-pass-back-requires-3
+pass-back-requires-3 c κs = let far = c .before .pass-back2 .ensures in (omega arith, far .1, omega arith, far .2)
 
-returns : tie.Need-returns Inv-loop μ-loop
-returns c =
-    let turn = c .before .before .before .loop in
-    whole-at (omega arith) (turn .inv .0) (c .if1 .taken) (turn .inv .1)
+ends-requires : tie.Need-ends-requires
+ends-requires c κs = omega (arith, c .before .pass-back3 .ensures .1)
 
-sub-r : tie.Need-sub-r Inv-loop μ-loop
-sub-r c = omega arith
+returns-3 : tie.Need-returns-3
+returns-3 c =
+    let text = now (c .before .before .before .before .before .before .before .before .before .before .before .args .text) in
+    let front = c .before .before .before .pass-back3 .ensures in
+    let none = c .before .ends .ensures (not-true (c .before .ends .result) (c .if4 .taken)) in
+    whole-none refl (no-end-join text 0 16 (length text) none (λ i a b. front .2 i (omega (arith, c .before .before .if3 .taken)) b))
 
-loop-less : tie.Need-loop-less Inv-loop μ-loop
-loop-less c = omega arith
-
-loop-again : tie.Need-loop-again Inv-loop μ-loop
-loop-again c =
-    let text = now (c .before .before .before .before .before .before .before .args .text) in
-    let turn = c .before .before .before .loop in
-    (omega arith, no-end-back text (turn .r) (omega arith) (c .if1 .left) (turn .inv .1))
-
-returns-2 : tie.Need-returns-2 Inv-loop μ-loop
-returns-2 c = whole-none (omega arith) (c .before .loop .inv .1)
+back-requires-3 : tie.Need-back-requires-3
+back-requires-3 c κs = let front = c .before .pass-back3 .ensures in (omega arith, front .1, front .2)
 
 pub whole-spec : {M : Type 1} → statement M
 whole-spec =
     tie.close
     (tie.spec
-    Inv-loop
-    μ-loop
+    (λ c. omega arith)
     pass-back-requires
-    pass-back-requires-2
-    loop-holds
-    sub-if1
-    shared-slice-read-if1
+    back-requires
     returns
-    sub-r
-    loop-less
-    loop-again
-    returns-2)
+    pass-back-high-requires
+    (λ c. omega (arith, c .pass-back-high .ensures .0))
+    pass-back-requires-2
+    back-requires-2
+    (λ c. whole-back (c .back2 .ensures))
+    pass-back-requires-3
+    ends-requires
+    returns-3
+    back-requires-3
+    (λ c. whole-back (c .back3 .ensures)))

@@ -8,20 +8,14 @@ use Rattle.register.proofs.is_up_to.Tie as tie
 mul-rank-of : tie.Need-mul-rank-of
 mul-rank-of c = search needs
 
-mul-rank-of-2 : tie.Need-mul-rank-of-2
-mul-rank-of-2 c = search needs
-
 shared-slice-read-rank-of : tie.Need-shared-slice-read-rank-of
 shared-slice-read-rank-of c = omega (arith, c .before .before .pre .0 .size)
-
-mul-rank-of-3 : tie.Need-mul-rank-of-3
-mul-rank-of-3 c = search needs
 
 add-rank-of : tie.Need-add-rank-of
 add-rank-of c = search needs
 
-mul-rank-of-4 : tie.Need-mul-rank-of-4
-mul-rank-of-4 c = search needs
+mul-rank-of-2 : tie.Need-mul-rank-of-2
+mul-rank-of-2 c = search needs
 
 shared-slice-read-rank-of-2 : tie.Need-shared-slice-read-rank-of-2
 shared-slice-read-rank-of-2 c = omega (arith, c .before .before .before .pre .0 .size)
@@ -39,11 +33,9 @@ is-up-to-spec =
     tie.close
     (tie.spec
     mul-rank-of
-    mul-rank-of-2
     shared-slice-read-rank-of
-    mul-rank-of-3
     add-rank-of
-    mul-rank-of-4
+    mul-rank-of-2
     shared-slice-read-rank-of-2
     rank-of-requires
     returns)

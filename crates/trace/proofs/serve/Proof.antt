@@ -6,7 +6,7 @@ use lib.ListN.{length}
 use lib.Seq.{length-take-le}
 use Rattle.rules.specs.Limits.{most}
 use Rattle.rules.specs.Tables.{storeOf}
-use Rattle.trace.specs.Served.{Serving, serving-none, serving-closed, serving-less, serving-more, serving-all, serving-stop}
+use Rattle.trace.specs.Served.{Serving, serving-none, serving-less, serving-more, serving-all, serving-stop}
 use Rattle.trace.proofs.serve.Statement.{statement}
 use Rattle.trace.proofs.serve.Tie as tie
 
@@ -21,16 +21,11 @@ abbrev μ-loop : tie.MeasureT-loop
     states links leaders holds counts register into list work out at low = length text - at
 
 -- places: what was fed, on the way to each need behind it; the turn of the loop before it, and the start
-fed : tie.After-struct-known Inv-loop μ-loop → tie.After-feed Inv-loop μ-loop
-fed c = search
-
 stopped : tie.Then1 Inv-loop μ-loop → tie.After-feed Inv-loop μ-loop
-unfolding fed
-stopped c = fed (c .before .before .before)
+stopped c = search
 
 went : tie.Else1 Inv-loop μ-loop → tie.After-feed Inv-loop μ-loop
-unfolding fed
-went c = fed (c .before .before .before)
+went c = search
 
 entered : tie.After-feed Inv-loop μ-loop → tie.In-loop Inv-loop μ-loop
 entered c = search
@@ -47,53 +42,37 @@ loop-holds c =
     let asked : tie.Start Inv-loop μ-loop = search in
     (serving-none (asked .pre .0), (refl, refl, refl))
 
-sub-feed : tie.Need-sub-feed Inv-loop μ-loop
-sub-feed c = omega (arith, c .before .loop .inv .0 .inside)
-
-part-feed-start : tie.Need-part-feed-start Inv-loop μ-loop
-part-feed-start c = omega (arith, c .before .loop .inv .0 .inside)
-
-part-feed-end : tie.Need-part-feed-end Inv-loop μ-loop
-part-feed-end c = omega (arith, c .before .loop .inv .0 .inside)
-
 feed-requires : tie.Need-feed-requires Inv-loop μ-loop
 unfolding asked
 feed-requires c κs =
     let before : tie.At-loop Inv-loop μ-loop = search in
     let inv = before .loop .inv in
-    (inv .0 .stands, serving-closed (inv .0) (asked before .pre .1), omega (arith, inv, asked before .pre .2))
-
-add-at : tie.Need-add-at Inv-loop μ-loop
-unfolding fed looped asked
-add-at c =
-    omega (
-      arith,
-      serving-more (looped (fed c) .loop .inv .0) (entered (fed c) .loop-test .taken) (fed c .feed .ensures .0) .inside,
-      asked (looped (fed c)) .good,
-    )
+    (inv .0 .stands, asked before .pre .1, inv .0 .inside, omega (arith, inv, asked before .pre .2))
 
 slice-reshare-prefix-write-all : tie.Need-slice-reshare-prefix-write-all Inv-loop μ-loop
-unfolding fed
-slice-reshare-prefix-write-all c = fed c .feed .ensures .0 .room
+slice-reshare-prefix-write-all c =
+    let fed : tie.After-feed Inv-loop μ-loop = search in
+    fed .feed .ensures .0 .room
 
 slice-aggregate-write-all : tie.Need-slice-aggregate-write-all Inv-loop μ-loop
-unfolding fed
-slice-aggregate-write-all c = sym (length-take-le (fed (c .before) .feed .result .written) _ (fed (c .before) .feed .ensures .0 .room))
+slice-aggregate-write-all c =
+    let fed : tie.After-feed Inv-loop μ-loop = search in
+    sym (length-take-le (fed .feed .result .written) _ (fed .feed .ensures .0 .room))
 
 returns : tie.Need-returns Inv-loop μ-loop
 unfolding stopped looped
-returns c = serving-stop (serving-more (looped (stopped c) .loop .inv .0) (entered (stopped c) .loop-test .taken) (stopped c .feed .ensures .0))
+returns c = serving-stop (serving-more (looped (stopped c) .loop .inv .0) (stopped c .feed .ensures .0))
 
 loop-less : tie.Need-loop-less Inv-loop μ-loop
 unfolding went looped asked
 loop-less c =
-    serving-less (looped (went c) .loop .inv .0) (entered (went c) .loop-test .taken) (went c .feed .ensures .0)
+    serving-less (looped (went c) .loop .inv .0) (went c .feed .ensures .0) (entered (went c) .loop-test .taken)
     (omega (arith, went c .feed .kept, looped (went c) .loop .inv, asked (looped (went c)) .pre .2)) (went c .feed .ensures .1)
 
 loop-again : tie.Need-loop-again Inv-loop μ-loop
 unfolding went looped
 loop-again c =
-    (serving-more (looped (went c) .loop .inv .0) (entered (went c) .loop-test .taken) (went c .feed .ensures .0), omega (arith, went c .feed .kept, looped (went c) .loop .inv))
+    (serving-more (looped (went c) .loop .inv .0) (went c .feed .ensures .0), omega (arith, went c .feed .kept, looped (went c) .loop .inv))
 
 returns-2 : tie.Need-returns-2 Inv-loop μ-loop
 returns-2 c = serving-all (c .before .loop .inv .0) (omega arith)
@@ -105,11 +84,7 @@ serve-spec =
     Inv-loop
     μ-loop
     loop-holds
-    sub-feed
-    part-feed-start
-    part-feed-end
     feed-requires
-    add-at
     slice-reshare-prefix-write-all
     slice-aggregate-write-all
     (λ c κs. tt)

@@ -1,4 +1,4 @@
--- `reader::ends` looks at each byte of a block. Assumes nothing.
+-- `reader::blocks::ends` looks at each byte of a block. Assumes nothing.
 use Prim.Native.Nat.{ℕ, _+_, _-_, _≤_}
 use mathlib.Core.Path.{_≡_}
 use mathlib.Core.Bool.{false}
@@ -6,8 +6,8 @@ use mathlib.Core.Logic.{⊎-elim}
 use native.Mathlib.Omega.{arith}
 use denote.Ref.{now}
 use Rattle.reader.specs.Lines.{NoEnd, block-more}
-use Rattle.reader.proofs.ends.Statement.{statement}
-use Rattle.reader.proofs.ends.Tie as tie
+use Rattle.reader.proofs.blocks.ends.Statement.{statement}
+use Rattle.reader.proofs.blocks.ends.Tie as tie
 
 abbrev Inv-loop : tie.InvT-loop
 Inv-loop text at size found₀ i₀ found i = (i ≤ size) × (found ≡ false → NoEnd text at (at + i))

@@ -1,11 +1,11 @@
--- `reader::pass` passes blocks in which no line ends; the last byte of the text ends one. Assumes nothing.
+-- `reader::blocks::pass` passes blocks in which no line ends; the last byte of the text ends one. Assumes nothing.
 use Prim.Native.Nat.{_-_, _≤_, _<_}
 use native.Mathlib.Omega.{arith}
 use denote.Ref.{now}
 use lib.ListN.{length}
 use Rattle.reader.specs.Lines.{NoEnd, no-end-none, no-end-join, block-inside}
-use Rattle.reader.proofs.pass.Statement.{statement}
-use Rattle.reader.proofs.pass.Tie as tie
+use Rattle.reader.proofs.blocks.pass.Statement.{statement}
+use Rattle.reader.proofs.blocks.pass.Tie as tie
 
 abbrev Inv-loop : tie.InvT-loop
 Inv-loop text at size i₀ i = (at ≤ i) × (i < length text) × NoEnd text at i
