@@ -1,1 +1,2 @@
 // Theorems about calls and histories of the store; no code.
+#![tactic(auto)]

@@ -41,9 +41,9 @@ numbers_by a (does c) (refused r) = pick (is_look c) (looked (number_of r) 0 non
 numbers_by a check accepted = told 0 (pick (is_sound_store a.store) 1 0)
 numbers_by a check (refused r) = told (number_of r) 0
 
--- the numbers of an outcome that keeps the promise of its call
-pub promised_numbers : {c : Call} {a : Areas} {o : Outcome} → Promise c a o → numbers_of o.reply ≡ numbers_by a c (judge a c)
-promised_numbers {c} {a} p = ap (λ (o : Outcome). numbers_of o.reply) p.exact ∙ outcome_numbers a c
+-- the numbers of the outcome that the rules give
+outcome_numbers : (a : Areas) (c : Call) → numbers_of (outcome_of a c).reply ≡ numbers_by a c (judge a c)
+outcome_numbers a c = unfold outcome_of in (by a c (judge a c))
   where
     done : (a : Areas) (c : Command) (b : Bool) → numbers_of (pick b (saw (seen_at a.store.tables (piece_of c))) (answered (done_by a.store.tables.base c)))
         ≡ pick b (looked 0 (state a.store.tables.base (piece_of c)) (get_or a.store.tables.leaders (piece_of c) 0)
@@ -68,5 +68,6 @@ promised_numbers {c} {a} p = ap (λ (o : Outcome). numbers_of o.reply) p.exact �
     by a check accepted = unfold ended accepted_call cleared in (yes (is_sound_store a.store))
     by a check (refused r) = unfold ended refused_call in refl
 
-    outcome_numbers : (a : Areas) (c : Call) → numbers_of (outcome_of a c).reply ≡ numbers_by a c (judge a c)
-    outcome_numbers a c = unfold outcome_of in (by a c (judge a c))
+-- the numbers of an outcome that keeps the promise of its call
+pub promised_numbers : {c : Call} {a : Areas} {o : Outcome} → Promise c a o → numbers_of o.reply ≡ numbers_by a c (judge a c)
+promised_numbers {c} {a} p = ap (λ (o : Outcome). numbers_of o.reply) p.exact ∙ outcome_numbers a c

@@ -1,4 +1,5 @@
 // Any command's work on a sound store, and the number below which nothing is free after it.
+#![tactic(auto)]
 ghost use Rattle.std.specs.Prelude.{◌≡◌, ◌≤◌, length};
 ghost use Rattle.rules.specs.Tables.{store_of};
 ghost use Rattle.rules.specs.Calls.{answered};

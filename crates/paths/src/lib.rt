@@ -1,4 +1,5 @@
 // The search for groups as moves on an abstract state: all of it stands in specs/, but for the mark that its code writes.
+#![tactic(auto)]
 
 // The mark of a finished piece in the work of a search.
 pub const FINISHED_MARK: u32 = 65535;

@@ -1,4 +1,6 @@
 // The store's limits, its refusals, commands and answers, as the rulebook names them. What they mean stands in specs/.
+#![tactic(auto)]
+
 ghost use Rattle.std.specs.Prelude.{◌≡◌};
 ghost use Rattle.rules.specs.Calls.{number_of, fresh};
 

@@ -1,4 +1,5 @@
 // Stored traces: each is answered and compared with the output that is stored beside it.
+#![tactic(auto)]
 ghost use Rattle.std.specs.Prelude.{◌≡◌, true, ◌≤◌, length};
 ghost use Rattle.rules.specs.Limits.{most_trace};
 ghost use Rattle.rules.specs.Trace.{trace};

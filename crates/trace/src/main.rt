@@ -1,4 +1,5 @@
 // Reads a trace of any length from standard input and writes the answers to standard output.
+#![tactic(auto)]
 ghost use Rattle.std.specs.Prelude.{◌≤◌, ◌<◌, length, take};
 ghost use Rattle.rules.specs.Tables.{store_of};
 ghost use Rattle.rules.specs.Limits.{most};
