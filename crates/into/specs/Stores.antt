@@ -3,7 +3,6 @@ use Rattle.std.proofs.Math.Path.{◌≡◌, refl}
 use Rattle.std.proofs.Common.{sym, ap, ◌∙◌, subst, ⊎_elim, arith}
 use Rattle.std.specs.Prelude.{Bool, true, false, List, ℕ, ◌+◌, ◌*◌, ◌/◌, ◌%◌, ◌<◌}
 use Rattle.rules.specs.Lists.{◌!◌}
-use Rattle.rules.specs.Tests.{◌or◌}
 use Rattle.rules.specs.Tables.{Base, Tables, store_on, store_by, state, link_at, finish}
 use Rattle.rules.specs.Words.{SizedBase, Live, Well, wfree, wdraft, wfrozen}
 use Rattle.rules.specs.Commands.{Verdict, accepted, refused, is_freeze, meant, with_states, with_holds, one_more, one_less, first_free, edit, settles, after}

@@ -1,5 +1,6 @@
 // The links into each draft: for a draft the link places of other pieces that name it, 0 for all else.
 #![tactic(auto)]
+
 ghost use Rattle.into.specs.Forgotten.{Forgetting, Forgotten};
 ghost use Rattle.into.specs.Moves.{Reckoned, More, Takable, Less, Followable, Followed};
 
