@@ -1,4 +1,4 @@
--- A loop that fills the front of a list with one value, for every width. Assumes nothing.
+-- A loop that fills the front of a list with one value, for every width.
 use mathlib.Core.Path.{◌≡◌, refl}
 use mathlib.Core.List.{List, ◌++◌}
 use Prim.Native.Nat.{ℕ, ◌+◌, ◌≤◌, ◌<◌}

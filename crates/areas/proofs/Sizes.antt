@@ -1,4 +1,4 @@
--- A store of which one size is wrong, and one of which all are right. Assumes nothing.
+-- A store of which one size is wrong, and one of which all are right.
 use mathlib.Core.Path.{◌≡◌, refl}
 use mathlib.Core.Bool.{Bool, true, false}
 use Prim.Native.Nat.{◌≤◌}

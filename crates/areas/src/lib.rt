@@ -1,5 +1,6 @@
 // Leaves over the areas: filling, sizes, the lowest free number, one piece's links.
 #![tactic(auto)]
+
 ghost use Rattle.std.specs.Prelude.{◌≡◌, ◌++◌, ◌+◌, ◌*◌, ◌≤◌, ◌<◌, length, drop, replicate};
 ghost use Rattle.rules.specs.Tables.{tables_of};
 ghost use Rattle.rules.specs.Calls.{is_sized};
