@@ -1,5 +1,6 @@
 // The lines that a trace answers, written into lent bytes from a place on. Each function hands back the place after what it wrote.
 #![tactic(auto)]
+
 ghost use Rattle.std.specs.Prelude.{◌≡◌, [], ◌∷◌, ◌+◌, ◌*◌, ◌≤◌, ◌<◌, length, take};
 ghost use Rattle.rules.specs.Limits.{none};
 ghost use Rattle.rules.specs.Calls.{number_of, answered};
