@@ -1,5 +1,6 @@
 // One line of a text whose last byte is 10, read from left to right, one word at a time.
 #![tactic(auto)]
+
 ghost use Rattle.std.specs.Prelude.{◌≡◌, ◌≤◌, ◌<◌, length, drop};
 ghost use Rattle.rules.specs.Trace.{number, word, target, target_word};
 ghost use Rattle.rules.specs.declared.Command.TheVariants.{New};
