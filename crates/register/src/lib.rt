@@ -1,5 +1,6 @@
 // The register: 1,024 lines of seat, piece and number, the used ones first and ascending by seat, then piece.
 #![tactic(auto)]
+
 ghost use Rattle.std.specs.Prelude.{◌≡◌, not, ℕ, ◌+◌, ◌*◌, ◌≤◌, ◌<◌, eqb, length, replicate};
 ghost use Rattle.rules.specs.Tests.{◌&◌};
 ghost use Rattle.rules.specs.Limits.{lines, entries};
