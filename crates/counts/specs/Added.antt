@@ -77,7 +77,7 @@ places-rest {n} {links} {leaders} {q} {j} {c} {c₁} z h zero e a f =
     subst (λ (k : ℕ). PlacesCounted n links leaders q k c c₁) all a
 places-rest {j = j} z h (suc m) e a f =
     let empty = f j (omega arith) (omega arith) in
-    places-rest z h m (omega arith) (places-more z h (omega arith) a (link_past (still z a.added) (omega (arith, z.small)))) (λ k l u. f k (omega arith) u)
+    places-rest {j = j + 1} z h m (omega arith) (places-more z h (omega arith) a (link_past (still z a.added) (omega (arith, z.small)))) (λ k l u. f k (omega arith) u)
 
 -- ---- all pieces
 

@@ -1,5 +1,6 @@
 // What a link adds to the counts of the groups.
 #![tactic(auto)]
+
 ghost use Rattle.tallies.specs.Places.{LinkAdded};
 ghost use Rattle.counts.specs.Added.{Countable};
 
