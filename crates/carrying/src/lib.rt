@@ -1,5 +1,6 @@
 // The rest of a chunk is carried to the front of the buffer, before the next chunk is read behind it.
 #![tactic(auto)]
+
 ghost use Rattle.std.specs.Prelude.{◌≤◌, length};
 ghost use Rattle.carrying.specs.Carried.{Carried};
 
