@@ -1,5 +1,6 @@
 // The names that a command gives: a piece, or a piece, a place and a target. The first refusal that applies to them, in the table's order.
 #![tactic(auto)]
+
 ghost use Rattle.std.specs.Prelude.{◌≡◌, length};
 ghost use Rattle.naming.specs.Told.{ToldPiece, ToldLink};
 
