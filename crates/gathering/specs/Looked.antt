@@ -1,5 +1,5 @@
 -- One piece of the queue: its places are looked at, one by one, and what they name stands in the queue.
-use Rattle.std.specs.Prelude.{◌≡◌, refl, ◌⊎◌, List, ℕ, ◌+◌, ◌*◌, ◌≤◌, ◌<◌, length}
+use Rattle.std.specs.Prelude.{◌≡◌, refl, List, ℕ, ◌+◌, ◌*◌, ◌≤◌, ◌<◌, length}
 use Rattle.std.proofs.Common.{sym, ap, ◌∙◌, subst, ⊎_elim, le_refl, arith, get_or-set_same, get_or-set_other}
 use Rattle.rules.specs.Lists.{◌!◌}
 use Rattle.rules.specs.Reach.{Reach}

@@ -1,5 +1,6 @@
 // The drafts that a draft reaches, gathered in a queue: what a freeze touches, and nothing else.
 #![tactic(auto)]
+
 ghost use Rattle.gathering.specs.Put.{Putting, Put};
 ghost use Rattle.gathering.specs.Queue.{Gathering};
 ghost use Rattle.gathering.specs.Looked.{Looking, LookedAt};
