@@ -1,9 +1,8 @@
--- Look on sound tables: its rows, and what it answers. Assumes nothing.
-use mathlib.Core.Path.{◌≡◌, refl, sym, ◌∙◌}
-use mathlib.Core.List.{[]}
-use Prim.Native.Nat.{ℕ, ◌≤◌}
-use native.Mathlib.Omega.{arith}
-use lib.ListN.{get_or, get_or-eq_default}
+-- Look on sound tables: its rows, and what it answers.
+use Rattle.std.specs.Prelude.{[], ℕ, ◌≤◌}
+use Rattle.std.proofs.Common.{arith}
+use Rattle.std.proofs.Math.Path.{◌≡◌, refl, sym, ◌∙◌}
+use Rattle.std.proofs.Math.ListN.{get_or, get_or-eq_default}
 use Rattle.rules.specs.Tables.{Base, Tables, state, is_free, holds_of}
 use Rattle.rules.specs.Commands.{table_refusals, edit, settles, freed_by, after, next_tables}
 use Rattle.rules.specs.Calls.{Ready, saw, seen_at, accepted_by, listing}

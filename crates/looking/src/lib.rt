@@ -1,5 +1,6 @@
 // Look on sound tables: what a piece is, and nothing changes.
 #![tactic(auto)]
+
 ghost use Rattle.std.specs.Prelude.{[]};
 ghost use Rattle.rules.specs.Tables.{tables_of};
 ghost use Rattle.rules.specs.Calls.{Ready, saw};
