@@ -2,6 +2,7 @@
 // By piece: marks (0 unseen, q + 1 on the stack at position q, and the mark of a finished piece), next places, leaders.
 // By position: the stack, the starts of its blocks, the parent's position.
 #![tactic(auto)]
+
 ghost use Rattle.std.specs.Prelude.{◌≡◌, ◌+◌, ◌*◌, ◌≤◌, ◌<◌, length, set};
 ghost use Rattle.rules.specs.Lists.{◌!◌};
 ghost use Rattle.paths.specs.Ground.{OneWay, ground};

@@ -1,0 +1,9 @@
+-- `groups::visit` meets its contract: one search from the root, where all that it reaches is unseen.
+use Rattle.groups.specs.Root.{search_start, search_end}
+use Rattle.groups.proofs.visit.Goals as goal
+
+pub search-requires : goal.search-requires
+search-requires c = search_start c.requires
+
+pub returns : goal.returns
+returns c = search_end c.requires c.search.auto.work c.search.ensures
