@@ -1,5 +1,6 @@
 // What stands in the queue of a freeze becomes frozen, and its groups are counted: the links into its drafts, added up, less the places within each group.
 #![tactic(auto)]
+
 ghost use Rattle.recounting.specs.Taken.{Taking, Taken};
 ghost use Rattle.recounting.specs.Summing.{Handing, Summed};
 ghost use Rattle.recounting.specs.Inner.{Uncounting, Uncounted};
