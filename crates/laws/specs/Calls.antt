@@ -2,7 +2,7 @@
 use Rattle.std.specs.Prelude.{◌≡◌, Bool, true, false, not, List, [], ◌∷◌, ℕ, ◌*◌, ◌≤◌, T, eqb, leb, length}
 use Rattle.std.proofs.Math.Path.{refl}
 use Rattle.std.proofs.Common.{sym, ap, ◌∙◌, subst, arith, T_not, eqb→eq, leb→le, le→leb}
-use Rattle.rules.specs.Tests.{◌or◌, ◌&◌, pick}
+use Rattle.rules.specs.Tests.{◌&◌, pick}
 use Rattle.rules.specs.Limits.{most, entries}
 use Rattle.rules.specs.Tables.{Tables, Store, is_sound_store}
 use Rattle.rules.specs.Words.{Sized, SizedStore}

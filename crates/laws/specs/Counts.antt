@@ -1,11 +1,11 @@
 -- Counts: a group with a count of at least 1 is held, or linked from outside; where every frozen piece's group has one, every frozen piece is kept.
-use Rattle.std.specs.Prelude.{◌≡◌, ◌⊎◌, Bool, true, false, not, ℕ, zero, suc, ◌+◌, ◌*◌, ◌≤◌, ◌<◌, T}
+use Rattle.std.specs.Prelude.{◌≡◌, Bool, true, false, not, ℕ, zero, suc, ◌+◌, ◌*◌, ◌≤◌, ◌<◌, T}
 use Rattle.std.proofs.Math.Path.{refl}
 use Rattle.std.proofs.Common.{subst, ⊎_elim, zero-le, le_refl, not-suc-le-zero, arith, T_not}
 use Rattle.std.proofs.Math.Logic.{inl, inr}
 use Rattle.std.proofs.Math.Decide.{ℕ_discrete}
 use Rattle.std.proofs.Math.Dec.{not_T}
-use Rattle.rules.specs.Tests.{◌or◌, ◌&◌, only_if}
+use Rattle.rules.specs.Tests.{◌&◌, only_if}
 use Rattle.laws.specs.Tests.{or_cases, and_left, and_right}
 use Rattle.rules.specs.Below.{sum}
 use Rattle.rules.specs.Reach.{here, chain, Link}

@@ -1,7 +1,6 @@
 -- Where the frozen pieces and their links stay, their groups stay.
-use Rattle.std.specs.Prelude.{◌≡◌, ◌⊎◌, ℕ, ◌≤◌, ◌<◌}
+use Rattle.std.specs.Prelude.{◌≡◌, ℕ, ◌≤◌, ◌<◌}
 use Rattle.std.proofs.Common.{sym, ◌∙◌, subst, ⊎_elim, arith}
-use Rattle.rules.specs.Tests.{◌or◌}
 use Rattle.rules.specs.Reach.{here, chain, Link}
 use Rattle.rules.specs.Tables.{Base, link_at}
 use Rattle.rules.specs.Words.{Frozen, Reaches, Group, Well}

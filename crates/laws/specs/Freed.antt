@@ -8,7 +8,7 @@ use Rattle.std.proofs.Math.Decide.{ℕ_discrete}
 use Rattle.std.proofs.Math.Dec.{T}
 use Rattle.std.proofs.Math.ListN.{get_or}
 use Rattle.std.proofs.Math.Seq.{get_or-set_same}
-use Rattle.rules.specs.Tests.{◌or◌, ◌&◌, pick}
+use Rattle.rules.specs.Tests.{◌&◌, pick}
 use Rattle.rules.specs.Lists.{Among}
 use Rattle.rules.specs.Tables.{Base, state, is_draft, is_frozen, reaches}
 use Rattle.rules.specs.Words.{Draft, Live, SizedBase}

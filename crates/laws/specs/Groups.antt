@@ -1,7 +1,6 @@
 -- The paper's rule: two frozen pieces share a leader exactly if each reaches the other. Kept, by counts.
 use Rattle.std.specs.Prelude.{◌≡◌, ◌↔◌, ℕ}
 use Rattle.std.proofs.Common.{sym, subst}
-use Rattle.rules.specs.Tests.{◌or◌}
 use Rattle.rules.specs.Tables.{Base, leader_of}
 use Rattle.rules.specs.Words.{Frozen, Reaches, Group, Leader}
 use Rattle.laws.specs.Words.{trans, leader_of_is, leader-one}

@@ -1,5 +1,5 @@
 -- The table of holds is what the history says: accepted freezes and acquires less releases, since the number was last given out.
-use Rattle.std.specs.Prelude.{◌≡◌, ◌⊎◌, ◌≢◌, Bool, true, false, not, T, eqb, set}
+use Rattle.std.specs.Prelude.{◌≡◌, ◌≢◌, Bool, true, false, not, T, eqb, set}
 use Rattle.std.proofs.Math.Path.{refl, sym, ap}
 use Rattle.std.proofs.Common.{◌∙◌, subst, eqb→eq}
 use Rattle.std.proofs.Math.Logic.{inr, ⊎_elim}

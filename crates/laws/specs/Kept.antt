@@ -6,7 +6,7 @@ use Prim.Native.Nat.{ℕ, zero, suc, ◌+◌, ◌≤◌, ◌<◌}
 use Rattle.std.proofs.Math.Decide.{ℕ_discrete}
 use native.Mathlib.Omega.{arith}
 use Rattle.std.proofs.Math.Dec.{T, not_T}
-use Rattle.rules.specs.Tests.{◌or◌, ◌&◌, only_if}
+use Rattle.rules.specs.Tests.{◌&◌, only_if}
 use Rattle.rules.specs.Below.{sum}
 use Rattle.rules.specs.Reach.{here, chain, Link}
 use Rattle.rules.specs.Tables.{Base, is_live, is_draft, is_frozen, link_at, holds_of, in_group, leader_of, places, count_of}

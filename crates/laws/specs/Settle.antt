@@ -6,7 +6,7 @@ use Rattle.std.proofs.Math.Logic.{⊎_elim}
 use Rattle.std.proofs.Math.Bool.{not}
 use native.Mathlib.Omega.{arith}
 use Rattle.std.proofs.Math.Dec.{T_not, not_T}
-use Rattle.rules.specs.Tests.{◌or◌, ◌&◌, pick}
+use Rattle.rules.specs.Tests.{◌&◌, pick}
 use Rattle.laws.specs.Tests.{and_both, and_right}
 use Rattle.rules.specs.Limits.{none}
 use Rattle.laws.specs.Below.{T_dec, pick_true, pick-false, get_or-table}

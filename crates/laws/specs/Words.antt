@@ -4,7 +4,7 @@ use Rattle.std.proofs.Common.{sym, le_antisymm, lt→ltb}
 use Rattle.std.proofs.Math.Path.{subst}
 use Rattle.std.proofs.Math.Logic.{inl, inr}
 use Rattle.std.proofs.Math.Dec.{T, not_T, ltb, eqb→eq, eqb_refl, ltb→lt}
-use Rattle.rules.specs.Tests.{◌or◌, ◌&◌}
+use Rattle.rules.specs.Tests.{◌&◌}
 use Rattle.laws.specs.Tests.{or_left, or_right, or_cases, and_both, and_left, and_right}
 use Rattle.rules.specs.Below.{lowest}
 use Rattle.laws.specs.Below.{some→, →some, lowest_is}
@@ -13,7 +13,6 @@ use Rattle.laws.specs.Reach.{reachb→Reach, Reach→reachb, reachb_below}
 use Rattle.rules.specs.Tables.{Base, state, is_draft, is_frozen, link_at, holds_of, reaches, in_group, leader_of, is_root}
 use Rattle.rules.specs.Tables.{is_kept}
 use Rattle.rules.specs.Words.{Draft, Frozen, Reaches, Group, Leader, Root, Kept}
-use Rattle.rules.specs.Words.{frozen}
 
 pub eqb_of : {m n : ℕ} → m ≡ n → T (eqb m n)
 eqb_of {m} e = subst (λ (k : ℕ). T (eqb m k)) e (eqb_refl m)

@@ -1,6 +1,6 @@
 -- The rulebook's trace: what a line says, what each line answers, the last line, the output of a whole trace, and what a lent trace gives.
 use Rattle.std.specs.Prelude.{Bool, List, [], ◌∷◌, ◌++◌, ℕ, zero, suc, ◌+◌, ◌*◌, ◌-◌, ◌/◌, ◌%◌, ◌^◌, eqb, ltb, leb, length, get_or, take, drop, replicate}
-use Rattle.rules.specs.Tests.{◌or◌, ◌&◌, pick, only_if}
+use Rattle.rules.specs.Tests.{◌&◌, pick, only_if}
 use Rattle.rules.specs.Limits.{most, most_trace, none}
 use Rattle.rules.specs.Below.{sum}
 use Rattle.rules.specs.Tables.{Tables, Store, is_draft, is_frozen, empty}

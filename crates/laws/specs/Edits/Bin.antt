@@ -1,6 +1,6 @@
 -- Bin keeps the pieces well.
 use Rattle.std.proofs.Common.{sym}
-use Rattle.std.specs.Prelude.{◌⊎◌, ◌≢◌, ℕ, ◌-◌, ◌<◌, T}
+use Rattle.std.specs.Prelude.{◌≢◌, ℕ, ◌<◌, T}
 use Rattle.std.proofs.Math.Logic.{⊎_elim}
 use Rattle.std.proofs.Math.Bool.{not}
 use Rattle.std.proofs.Math.Dec.{T_not, eqb}

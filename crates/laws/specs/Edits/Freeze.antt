@@ -1,5 +1,5 @@
 -- Freeze of a draft keeps the pieces well and the frozen ones kept.
-use Rattle.std.specs.Prelude.{◌≡◌, ◌⊎◌, ◌≢◌, Bool, not, ℕ, ◌-◌, ◌≤◌, ◌<◌, set}
+use Rattle.std.specs.Prelude.{◌≡◌, ◌⊎◌, ◌≢◌, Bool, not, ℕ, ◌≤◌, ◌<◌, set}
 use Rattle.std.proofs.Math.Path.{refl, ap}
 use Rattle.std.proofs.Common.{sym, ◌∙◌, subst, arith, T_not}
 use Rattle.std.proofs.Math.Logic.{inl, inr, ⊎_elim}
@@ -7,7 +7,7 @@ use Rattle.std.proofs.Math.Decide.{ℕ_discrete}
 use Rattle.std.proofs.Math.Dec.{T}
 use Rattle.std.proofs.Math.ListN.{get_or}
 use Rattle.std.proofs.Math.Seq.{get_or-set_same, get_or-set_other}
-use Rattle.rules.specs.Tests.{◌or◌, ◌&◌, pick}
+use Rattle.rules.specs.Tests.{◌&◌, pick}
 use Rattle.laws.specs.Tests.{and_both, and_left, and_right}
 use Rattle.laws.specs.Below.{T_dec, pick_true, pick-false, get_or-table}
 use Rattle.rules.specs.Reach.{here, chain}

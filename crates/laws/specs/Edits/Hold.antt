@@ -1,12 +1,11 @@
 -- One hold more or less keeps the pieces well.
-use Rattle.std.specs.Prelude.{◌≡◌, ◌⊎◌, ◌≢◌, ℕ, ◌-◌, ◌≤◌, ◌<◌, set}
+use Rattle.std.specs.Prelude.{◌≡◌, ◌⊎◌, ◌≢◌, ℕ, ◌≤◌, ◌<◌, set}
 use Rattle.std.proofs.Common.{sym, ◌∙◌, ⊎_elim}
 use Rattle.std.proofs.Math.Path.{ap, subst}
 use Rattle.std.proofs.Math.Logic.{inl, inr}
 use Rattle.std.proofs.Math.Decide.{ℕ_discrete}
 use Rattle.std.proofs.Math.ListN.{get_or}
 use Rattle.std.proofs.Math.Seq.{get_or-set_same, get_or-set_other}
-use Rattle.rules.specs.Tests.{◌or◌}
 use Rattle.rules.specs.Limits.{none}
 use Rattle.rules.specs.Tables.{Base, state, link_at, holds_of}
 use Rattle.rules.specs.Words.{Draft, Frozen, Live, Root, Well, wfree, wdraft, wfrozen, SizedBase}

@@ -1,12 +1,11 @@
 -- New keeps the pieces well and the frozen ones kept.
-use Rattle.std.specs.Prelude.{◌≡◌, ◌⊎◌, ◌≢◌, ℕ, suc, ◌-◌, ◌<◌, set}
+use Rattle.std.specs.Prelude.{◌≡◌, ◌≢◌, ℕ, suc, ◌<◌, set}
 use Rattle.std.proofs.Common.{sym, ◌∙◌, subst, arith}
 use Rattle.std.proofs.Math.Path.{ap}
 use Rattle.std.proofs.Math.Logic.{inl, inr, ⊎_elim}
 use Rattle.std.proofs.Math.Decide.{ℕ_discrete}
 use Rattle.std.proofs.Math.ListN.{get_or}
 use Rattle.std.proofs.Math.Seq.{get_or-set_same, get_or-set_other}
-use Rattle.rules.specs.Tests.{◌or◌}
 use Rattle.rules.specs.Tables.{Base, state, link_at, holds_of}
 use Rattle.rules.specs.Words.{Draft, Frozen, Root, Kept, Well, wfree, wdraft, wfrozen, SizedBase}
 use Rattle.laws.specs.Sound.{Good}

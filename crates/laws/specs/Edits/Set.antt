@@ -1,11 +1,10 @@
 -- Set keeps the pieces well.
-use Rattle.std.specs.Prelude.{◌≡◌, ◌⊎◌, ◌≢◌, ℕ, ◌+◌, ◌*◌, ◌-◌, ◌<◌, set}
+use Rattle.std.specs.Prelude.{◌≡◌, ◌⊎◌, ◌≢◌, ℕ, ◌+◌, ◌*◌, ◌<◌, set}
 use Rattle.std.proofs.Common.{sym, ap, ◌∙◌, ⊎_elim, arith}
 use Rattle.std.proofs.Math.Path.{subst}
 use Rattle.std.proofs.Math.Logic.{inl, inr}
 use Rattle.std.proofs.Math.Decide.{ℕ_discrete}
 use Rattle.std.proofs.Math.Seq.{get_or-set_same, get_or-set_other}
-use Rattle.rules.specs.Tests.{◌or◌}
 use Rattle.rules.specs.Limits.{none}
 use Rattle.rules.specs.Tables.{Base, state, link_at, holds_of}
 use Rattle.rules.specs.Words.{Frozen, Live, DraftWell, Well, wfree, wdraft, wfrozen, SizedBase}
