@@ -1,13 +1,10 @@
--- New on sound tables: the lowest free number is the one that new gives out, and a new draft changes no leader and no count. Assumes nothing.
-use mathlib.Core.Path.{◌≡◌, refl, sym, ap, ◌∙◌, subst}
-use mathlib.Core.Logic.{◌≢◌}
-use mathlib.Core.Bool.{not}
-use mathlib.Core.List.{[]}
-use Prim.Native.Nat.{ℕ, ◌≤◌, ◌<◌}
-use native.Mathlib.Omega.{arith}
-use lib.Dec.{T_not, not_T, eqb, eqb→eq}
-use lib.ListN.{get_or, set}
-use lib.Seq.{get_or-set_same, get_or-set_other}
+-- New on sound tables: the lowest free number is the one that new gives out, and a new draft changes no leader and no count.
+use Rattle.std.specs.Prelude.{◌≢◌, not, [], ℕ, ◌≤◌, ◌<◌}
+use Rattle.std.proofs.Common.{arith}
+use Rattle.std.proofs.Math.Path.{◌≡◌, refl, sym, ap, ◌∙◌, subst}
+use Rattle.std.proofs.Math.Dec.{T_not, not_T, eqb, eqb→eq}
+use Rattle.std.proofs.Math.ListN.{get_or, set}
+use Rattle.std.proofs.Math.Seq.{get_or-set_same, get_or-set_other}
 use Rattle.rules.specs.Below.{every}
 use Rattle.rules.specs.Tables.{Base, Tables, state, is_free, link_at, finish}
 use Rattle.rules.specs.Words.{Well}

@@ -1,5 +1,6 @@
 // New on sound tables: the lowest free number is given out.
 #![tactic(auto)]
+
 ghost use Rattle.giving.specs.Gave.{Giving, Gave};
 
 use rules::{Answer, Refusal, Store};

@@ -1,5 +1,6 @@
 // One link place of a draft goes to another target, and the counts follow.
 #![tactic(auto)]
+
 ghost use Rattle.std.specs.Prelude.{◌≡◌, ◌+◌, ◌*◌, ◌<◌, length, set};
 ghost use Rattle.editing.specs.Relink.{Uncounting, Uncounted, Relinking, Relinked};
 
