@@ -1,15 +1,7 @@
 -- `register::find_among` meets its contract: the line in the middle halves the window, and its last line tells where the pair stands.
 use Rattle.std.proofs.Common.{◌+◌, ◌/◌, arith}
-use Rattle.register.specs.Windows.{window_at, window_start, window_up, window_stay, window_next, window_here}
+use Rattle.register.specs.Windows.{window_at, window_up, window_stay, window_next, window_here}
 use Rattle.register.proofs.find_among.Goals as goal
-
-pub loop-size-init : goal.loop-size-init
-loop-size-init c = (c.order_of-pair.ensures, (0, omega arith, window_start c.requires.1))
-
-pub is_up_to-requires : goal.is_up_to-requires
-is_up_to-requires c =
-    let inv = c.loop-size.invariant.1 in
-    (c.requires.0, omega arith, omega (arith, inv.1, inv.2.most))
 
 pub loop-size-preserved-then-is_up_to : goal.loop-size-preserved-then-is_up_to
 loop-size-preserved-then-is_up_to c =
@@ -26,11 +18,6 @@ loop-size-preserved c =
     let line = window.0 + half in
     let stay = window_stay c.requires.0 window.2 {half = half} c.is_up_to.result (c.is_up_to.ensures line (omega (arith, window.1))) in
     (c.loop-size.invariant.0, (window.0, window.1, stay c.loop-size.invariant.0 (omega arith) (omega arith) c.if-is_up_to.false))
-
-pub is_before-requires : goal.is_before-requires
-is_before-requires c =
-    let window = c.loop-size.invariant.1 in
-    (c.requires.0.size, omega (arith, window.1, window.2.most, window.2.some))
 
 pub returns-then-is_before : goal.returns-then-is_before
 returns-then-is_before c =

@@ -8,14 +8,8 @@ use Rattle.register.proofs.is_right.Goals as goal
 pub loop-i-init : goal.loop-i-init
 loop-i-init c = checked_start c.requires.0 c.requires.1
 
-pub all_zero-requires : goal.all_zero-requires
-all_zero-requires c = (c.requires.1, omega arith)
-
 pub returns-then-number-eq0 : goal.returns-then-number-eq0
 returns-then-number-eq0 c = rest_said c.loop-i.invariant c.requires.3 c.all_zero.result c.if-number-eq0.true c.all_zero.ensures
-
-pub overflow_cast-p : goal.overflow_cast-p
-overflow_cast-p c = omega (arith, c.type_inv.register (3 * c.loop-i.i + 1))
 
 pub returns-then-seat-gt31 : goal.returns-then-seat-gt31
 returns-then-seat-gt31 c = wrong_seat c.loop-i.invariant c.if-number-eq0.false (omega (arith, c.if-seat-gt31.true))

@@ -8,9 +8,6 @@ pub returns-then-i-blocks-lt-LINES : goal.returns-then-i-blocks-lt-LINES
 returns-then-i-blocks-lt-LINES c =
     opened_start _ c.requires.0 c.requires.1 c.requires.2 (omega (arith, c.requires.2)) (omega (arith, c.if-i-blocks-lt-LINES.true))
 
-pub lift-requires : goal.lift-requires
-lift-requires c = record { size = c.requires.0.size; most = omega (arith, c.requires.2, c.requires.3, c.if-i-blocks-lt-LINES.false) }
-
 pub returns : goal.returns
 returns c =
     let moved = lifted_at {to' = 3 * c.args.lines} refl (omega (arith, c.requires.2, c.requires.3, c.if-i-blocks-lt-LINES.false)) c.lift.ensures in

@@ -1,5 +1,5 @@
 -- `register::remove` meets its contract: a block more is that behind it, and the last line is emptied.
-use Rattle.std.proofs.Common.{◌+◌, arith, length-set}
+use Rattle.std.proofs.Common.{◌+◌, arith}
 use Rattle.register.specs.Order.{used_below}
 use Rattle.register.specs.Moved.{sunk_at}
 use Rattle.register.specs.Closed.{closed_start, closed_more, closed_block, closed_unused, closed_end}
@@ -8,25 +8,10 @@ use Rattle.register.proofs.remove.Goals as goal
 pub loop-m-init : goal.loop-m-init
 loop-m-init c = (omega (arith, used_below _ c.requires.0 _ c.requires.1), closed_start c.requires.0.size)
 
-pub sink-requires : goal.sink-requires
-sink-requires c = record { size = c.loop-m.invariant.1.size; most = omega (arith, c.loop-m-test.true) }
-
 pub returns-then-register-m-eq0 : goal.returns-then-register-m-eq0
 returns-then-register-m-eq0 c =
     let moved = closed_block c.loop-m.m c.loop-m.invariant.1 c.sink.ensures in
     closed_unused (c.loop-m.m + 32) c.requires.0 (used_below _ c.requires.0 _ c.requires.1) (omega (arith, c.loop-m-test.true)) moved c.if-register-m-eq0.true
-
-pub loop-m-preserved : goal.loop-m-preserved
-loop-m-preserved c = (omega (arith, c.loop-m-test.true), closed_block c.loop-m.m c.loop-m.invariant.1 c.sink.ensures)
-
-pub sink-requires-2 : goal.sink-requires-2
-sink-requires-2 c = record { size = c.loop-m.invariant.1.size; most = omega (arith, c.loop-m.invariant.0) }
-
-pub bounds-register-3070 : goal.bounds-register-3070
-bounds-register-3070 c = simp length-set (omega (arith, c.sink-2.ensures.size, c.loop-m.invariant.1.size))
-
-pub bounds-register-3071 : goal.bounds-register-3071
-bounds-register-3071 c = simp length-set (omega (arith, c.sink-2.ensures.size, c.loop-m.invariant.1.size))
 
 pub returns : goal.returns
 returns c =

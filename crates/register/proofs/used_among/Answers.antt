@@ -1,10 +1,7 @@
 -- `register::used_among` meets its contract: the line in the middle halves the window, and its last line tells how many are used.
 use Rattle.std.proofs.Common.{arith}
-use Rattle.register.specs.Windows.{parted_start, parted_up, parted_stay, parted_here, parted_next}
+use Rattle.register.specs.Windows.{parted_up, parted_stay, parted_here, parted_next}
 use Rattle.register.proofs.used_among.Goals as goal
-
-pub loop-size-init : goal.loop-size-init
-loop-size-init c = (0, omega arith, parted_start c.requires.1)
 
 pub loop-size-preserved-then-register-middle-ne0 : goal.loop-size-preserved-then-register-middle-ne0
 loop-size-preserved-then-register-middle-ne0 c =
