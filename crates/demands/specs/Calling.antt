@@ -1,5 +1,5 @@
 -- A trace is a history: its lines' calls follow each other on one store, and its answers are the calls'; so demands 2 and 3 hold of every trace.
-use Rattle.std.specs.Prelude.{◌≡◌, ◌⊎◌, Bool, not, ℕ, ◌*◌, ◌≤◌, T, eqb, leb, length, replicate}
+use Rattle.std.specs.Prelude.{◌≡◌, Bool, not, ℕ, ◌*◌, ◌≤◌, T, eqb, leb, length, replicate}
 use Rattle.std.proofs.Math.Path.{refl, ap}
 use Rattle.std.proofs.Common.{sym, ◌∙◌, subst, ⊎_elim, arith, le→leb}
 use Rattle.std.proofs.Math.Bool.{true, false}
@@ -11,7 +11,7 @@ use Rattle.rules.specs.Tables.{Store, empty}
 use Rattle.rules.specs.Commands.{is_look, piece_of, value_of, Verdict, accepted, refused, verdict, settled, step_to, freed_by}
 use Rattle.rules.specs.Calls.{number_of, Reply, answered, saw, seen_at, done_by, accepted_by, refused_by, does, takes_list, takes_work, is_sized_store, is_lent}
 use Rattle.rules.specs.Calls.{judge, cleared, accepted_call, ended, outcome_of, Promise, refused_call}
-use Rattle.rules.specs.Trace.{answer_line, look_line, lines_of, says, answer_to, line_by, accepted_line, store_after, output_of, end_line, trace_at, trace}
+use Rattle.rules.specs.Trace.{answer_line, look_line, lines_of, says, answer_to, line_by, accepted_line, store_after, output_of, end_line, trace_at}
 use Rattle.rules.specs.History.{Event, event, is_accepted, History, begun, refusing, accepting, listed, Listing}
 use Rattle.rules.specs.Calling.{lent_to, came_of, call_of, calls_of, left_by, line_in, line_of, answer_of, answers_of}
 use Rattle.rules.specs.declared.Refusal.{Refusal}

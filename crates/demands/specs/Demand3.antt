@@ -12,7 +12,6 @@ use Rattle.std.proofs.Math.Seq.{take-append_seam}
 use Rattle.rules.specs.Tests.{pick}
 use Rattle.rules.specs.Limits.{most}
 use Rattle.rules.specs.Lists.{Among, Ascending, nil}
-use Rattle.rules.specs.Below.{list}
 use Rattle.rules.specs.Tables.{Base, Store, state, holds_of, finish, empty_tables}
 use Rattle.rules.specs.Words.{Draft, Frozen, Live, Root, Kept, SizedBase, Well, wfree, wdraft, wfrozen}
 use Rattle.rules.specs.Commands.{accepted, meant, gone, gone_list, edit, settles, freed_by, after, next_tables, next_store}
