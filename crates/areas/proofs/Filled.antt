@@ -1,10 +1,6 @@
 -- A loop that fills the front of a list with one value, for every width.
-use mathlib.Core.Path.{◌≡◌, refl}
-use mathlib.Core.List.{List, ◌++◌}
-use Prim.Native.Nat.{ℕ, ◌+◌, ◌≤◌, ◌<◌}
-use native.Mathlib.Omega.{arith}
-use lib.ListN.{length, drop, replicate, set, length-set}
-use borrow.Author.Fill.{fill_more}
+use Rattle.std.proofs.Common.{◌≡◌, refl, List, ◌++◌, ℕ, ◌+◌, ◌≤◌, ◌<◌, arith, length, drop, replicate, set, length-set}
+use Rattle.std.proofs.lemmas.List.Edits.{fill_more}
 
 -- a is d with v in its first i places
 pub record Filled (d : List ℕ) (v i : ℕ) (a : List ℕ) : Type 0 where

@@ -1,8 +1,5 @@
 -- A store of which one size is wrong, and one of which all are right.
-use mathlib.Core.Path.{◌≡◌, refl}
-use mathlib.Core.Bool.{Bool, true, false}
-use Prim.Native.Nat.{◌≤◌}
-use lib.Dec.{T}
+use Rattle.std.proofs.Common.{◌≡◌, refl, Bool, true, false, ◌≤◌, T}
 use Rattle.rules.specs.Tables.{Tables}
 use Rattle.rules.specs.Words.{Sized}
 use Rattle.rules.specs.Calls.{is_sized}
