@@ -1,5 +1,6 @@
 // Set on sound tables: draft P's link K becomes T, and the links into each draft follow.
 #![tactic(auto)]
+
 ghost use Rattle.std.specs.Prelude.{◌≤◌, length};
 ghost use Rattle.rules.specs.Tables.{tables_of};
 ghost use Rattle.rules.specs.Calls.{answered, Ready};
