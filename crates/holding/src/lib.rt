@@ -1,5 +1,6 @@
 // Acquire and release by a seat, on a sound store: one hold more or less.
 #![tactic(auto)]
+
 ghost use Rattle.std.specs.Prelude.{◌≡◌, ◌+◌, ◌≤◌, length, set};
 ghost use Rattle.rules.specs.Lists.{◌!◌};
 ghost use Rattle.rules.specs.Tables.{tables_of, store_by};
