@@ -1,5 +1,5 @@
 -- The drafts that p reaches, assembled: they stand in the queue, each once, with their leaders found.
-use Rattle.std.specs.Prelude.{◌≡◌, ◌⊎◌, List, ℕ, ◌+◌, ◌-◌, ◌*◌, ◌≤◌, ◌<◌, length}
+use Rattle.std.specs.Prelude.{◌≡◌, List, ℕ, ◌+◌, ◌-◌, ◌*◌, ◌≤◌, ◌<◌, length}
 use Rattle.std.proofs.Common.{sym, ap, ◌∙◌, subst, inl, inr, ⊎_elim, arith, get_or-drop}
 use Rattle.rules.specs.Lists.{◌!◌}
 use Rattle.laws.specs.Numbers.{eq_or}

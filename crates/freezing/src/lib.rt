@@ -1,5 +1,6 @@
 // Freeze by a seat, on a sound store: groups are found once, at freeze.
 #![tactic(auto)]
+
 ghost use Rattle.std.specs.Prelude.{◌≡◌, [], ◌*◌, ◌≤◌, length, drop};
 ghost use Rattle.rules.specs.Tables.{tables_of, store_of};
 ghost use Rattle.rules.specs.Calls.{ReadyStore, Did, answered, effect};
