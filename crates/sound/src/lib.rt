@@ -2,6 +2,7 @@
 // Of the work, the first six regions of n entries are the search's; the seventh has what is counted: for a group at its leader, for a draft at its number; the eighth is left at 0.
 // A pass that only compares counts its faults and is not left early: such a loop compiles to vector instructions. The first sets what the walks read to 0 as it goes.
 #![tactic(auto)]
+
 ghost use Rattle.std.specs.Prelude.{◌≡◌, true, ◌+◌, ◌*◌, ◌≤◌, ◌<◌, length};
 ghost use Rattle.rules.specs.Tests.{◌&◌};
 ghost use Rattle.rules.specs.Tables.{is_sound, into_right, base_of, tables_of};
