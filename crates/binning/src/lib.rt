@@ -1,5 +1,6 @@
 // Bin on sound tables: draft P becomes free, where no other piece links to it.
 #![tactic(auto)]
+
 ghost use Rattle.std.specs.Prelude.{◌≡◌, [], ◌∷◌, ◌*◌, ◌≤◌, ◌<◌, length};
 ghost use Rattle.rules.specs.Tables.{tables_of};
 ghost use Rattle.rules.specs.Calls.{answered, Ready};

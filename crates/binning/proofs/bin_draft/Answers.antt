@@ -1,0 +1,27 @@
+-- `binning::bin_draft`: the emptied tables are the edited base; at most the groups that p named fell, and if one did, the letting go leaves what the rules say.
+use Rattle.rules.specs.Commands.{with_states, with_links}
+use Rattle.editing.specs.Bin.{emptying, bin_edited}
+use Rattle.editing.specs.Started.{edited_tippings, edited_going, edited_none, edited_done}
+use Rattle.binning.proofs.bin_draft.Goals as goal
+
+pub empty_places-requires : goal.empty_places-requires
+empty_places-requires c = emptying c.requires
+
+pub fall_four-first-requires : goal.fall_four-first-requires
+unfolding with_states with_links
+fall_four-first-requires c = edited_tippings (bin_edited c.requires c.empty_places.ensures)
+
+pub returns-then-first-eq0 : goal.returns-then-first-eq0
+unfolding with_states with_links
+returns-then-first-eq0 c =
+    edited_none (bin_edited c.requires c.empty_places.ensures) c.fall_four-first.ensures c.if-first-eq0.true c.fall_four-first.auto.list
+
+pub let_go-requires : goal.let_go-requires
+unfolding with_states with_links
+let_go-requires c = edited_going (bin_edited c.requires c.empty_places.ensures) c.fall_four-first.ensures
+
+pub returns : goal.returns
+unfolding with_states with_links
+returns c =
+    edited_done (bin_edited c.requires c.empty_places.ensures) c.fall_four-first.ensures c.fall_four-first.auto.list
+    c.let_go.ensures
