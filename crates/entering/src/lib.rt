@@ -1,5 +1,6 @@
 // How every call but start begins and ends: the sizes, then the soundness; on the way out work is cleared.
 #![tactic(auto)]
+
 ghost use Rattle.std.specs.Prelude.{◌≡◌};
 ghost use Rattle.rules.specs.Tables.{store_of};
 ghost use Rattle.rules.specs.Calls.{is_sized_store, clear};
