@@ -1,5 +1,6 @@
 // Any command's work on a sound store, and the number below which nothing is free after it.
 #![tactic(auto)]
+
 ghost use Rattle.std.specs.Prelude.{◌≡◌, ◌≤◌, length};
 ghost use Rattle.rules.specs.Tables.{store_of};
 ghost use Rattle.rules.specs.Calls.{answered};
@@ -23,10 +24,10 @@ pub struct Obeyed {
 }
 
 // After new: above the number that was given out.
-fn above(answer: Answer, from: usize) -> usize
-    ensures { result ≡ above_of answer from }
+fn above(answer: &Answer, from: usize) -> usize
+    ensures { result ≡ above_of answer.now from }
 {
-    match answer {
+    match *answer {
         Answer::Done { value, freed: _ } => {
             let given = value as usize;
             given + 1
@@ -46,11 +47,11 @@ fn least(a: usize, b: usize) -> usize
 }
 
 // The lower of from and the first number freed, if any was.
-fn lower(answer: Answer, list: &[u16], from: usize) -> usize
-    requires { freed_in (answered answer) ≤ length list.now }
-    ensures { Lower answer list.now from result }
+fn lower(answer: &Answer, list: &[u16], from: usize) -> usize
+    requires { freed_in (answered answer.now) ≤ length list.now }
+    ensures { Lower answer.now list.now from result }
 {
-    match answer {
+    match *answer {
         Answer::Done { value: _, freed } => {
             if freed == 0 {
                 return from;
@@ -63,11 +64,11 @@ fn lower(answer: Answer, list: &[u16], from: usize) -> usize
 }
 
 // After bin: the lowest of from, the first number freed and the number that was binned.
-fn lower_bin(answer: Answer, list: &[u16], from: usize, p: u16) -> usize
-    requires { freed_in (answered answer) ≤ length list.now }
-    ensures { LowerBin p answer list.now from result }
+fn lower_bin(answer: &Answer, list: &[u16], from: usize, p: u16) -> usize
+    requires { freed_in (answered answer.now) ≤ length list.now }
+    ensures { LowerBin p answer.now list.now from result }
 {
-    match answer {
+    match *answer {
         Answer::Done { value: _, freed: _ } => {
             let binned = p as usize;
             lower(answer, list, least(binned, from))
@@ -102,8 +103,8 @@ pub fn obey(
         Command::New => {
             let answer = giving::new(n, states, from);
             Obeyed {
+                from: above(&answer, from),
                 reply: Reply::Answered(answer),
-                from: above(answer, from),
             }
         }
         Command::Set { p, k, t } => {
@@ -111,8 +112,8 @@ pub fn obey(
                 n, states, links, leaders, holds, counts, into, list, p, k, t,
             );
             Obeyed {
+                from: lower(&answer, list, from),
                 reply: Reply::Answered(answer),
-                from: lower(answer, list, from),
             }
         }
         Command::Freeze { p, seat } => {
@@ -136,15 +137,15 @@ pub fn obey(
                 n, states, links, leaders, holds, counts, register, list, p, seat,
             );
             Obeyed {
+                from: lower(&answer, list, from),
                 reply: Reply::Answered(answer),
-                from: lower(answer, list, from),
             }
         }
         Command::Bin(p) => {
             let answer = binning::bin(n, states, links, leaders, holds, counts, into, list, p);
             Obeyed {
+                from: lower_bin(&answer, list, from, p),
                 reply: Reply::Answered(answer),
-                from: lower_bin(answer, list, from, p),
             }
         }
         Command::Look(p) => {
