@@ -1,5 +1,6 @@
 // The nine public calls: sizes, soundness, then the work; a call that is lent work clears it on the way out, unless a size is wrong.
 #![tactic(auto)]
+
 ghost use Rattle.std.specs.Prelude.{[]};
 ghost use Rattle.rules.specs.Tables.{store_of};
 ghost use Rattle.rules.specs.Calls.{start, does, check, areas_of, answered, saw, checked, outcome, Promise};
