@@ -116,11 +116,13 @@ module _ (l : List ℕ) (o : Ordered l) (s p : ℕ) where
 
   pub less_last : number_at l (line_of l s p) ≡ 1 → one_less_by l s p ≡ removed l (line_of l s p)
   unfolding one_less_by
-  less_last e = chosen (eqb (number_at l (line_of l s p)) 1) true (removed l (line_of l s p)) (renumbered l (line_of l s p) (number_at l (line_of l s p) - 1)) (eq-eqb (number_at l (line_of l s p)) 1 e)
+  less_last e =
+      chosen (eqb (number_at l (line_of l s p)) 1) true (removed l (line_of l s p)) (renumbered l (line_of l s p) (number_at l (line_of l s p) - 1)) (eq-eqb (number_at l (line_of l s p)) 1 e)
 
   pub less_some : (number_at l (line_of l s p) ≡ 1 → ⊥) → one_less_by l s p ≡ renumbered l (line_of l s p) (number_at l (line_of l s p) - 1)
   unfolding one_less_by
-  less_some d = chosen (eqb (number_at l (line_of l s p)) 1) false (removed l (line_of l s p)) (renumbered l (line_of l s p) (number_at l (line_of l s p) - 1)) (ne_eqb (number_at l (line_of l s p)) 1 d)
+  less_some d =
+      chosen (eqb (number_at l (line_of l s p)) 1) false (removed l (line_of l s p)) (renumbered l (line_of l s p) (number_at l (line_of l s p) - 1)) (ne_eqb (number_at l (line_of l s p)) 1 d)
 
   pub less_steps : 0 < held_by l s p → Stepped (one_less_by l s p) s p l
   less_steps h =

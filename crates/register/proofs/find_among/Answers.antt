@@ -22,9 +22,11 @@ loop-size-preserved c =
 pub returns-then-is_before : goal.returns-then-is_before
 returns-then-is_before c =
     let window = window_at c.args.register.now c.loop-size.at c.loop-size.invariant.1.0 c.loop-size.invariant.1.1 c.loop-size.invariant.1.2 in
-    window_next c.requires.0 window c.loop-size-test.false c.is_before.result (c.is_before.ensures (c.loop-size.at / 3) (omega (arith, c.loop-size.invariant.1.1))) c.loop-size.invariant.0 c.if-is_before.true
+    let told = c.is_before.ensures (c.loop-size.at / 3) (omega (arith, c.loop-size.invariant.1.1)) in
+    window_next c.requires.0 window c.loop-size-test.false c.is_before.result told c.loop-size.invariant.0 c.if-is_before.true
 
 pub returns : goal.returns
 returns c =
     let window = window_at c.args.register.now c.loop-size.at c.loop-size.invariant.1.0 c.loop-size.invariant.1.1 c.loop-size.invariant.1.2 in
-    window_here c.requires.0 window c.loop-size-test.false c.is_before.result (c.is_before.ensures (c.loop-size.at / 3) (omega (arith, c.loop-size.invariant.1.1))) c.loop-size.invariant.0 c.if-is_before.false
+    let told = c.is_before.ensures (c.loop-size.at / 3) (omega (arith, c.loop-size.invariant.1.1)) in
+    window_here c.requires.0 window c.loop-size-test.false c.is_before.result told c.loop-size.invariant.0 c.if-is_before.false
