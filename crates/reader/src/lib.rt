@@ -1,5 +1,6 @@
 // The trace reader: a line in, a line out, on tables that are sound by proof.
 #![tactic(auto)]
+
 ghost use Rattle.std.specs.Prelude.{◌≡◌, ◌+◌, ◌≤◌, ◌<◌, eqb, length};
 ghost use Rattle.rules.specs.Tests.{◌&◌, only_if};
 ghost use Rattle.rules.specs.Limits.{most};
