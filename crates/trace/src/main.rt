@@ -1,5 +1,6 @@
 // Reads a trace of any length from standard input and writes the answers to standard output.
 #![tactic(auto)]
+
 ghost use Rattle.std.specs.Prelude.{◌≤◌, ◌<◌, length, take};
 ghost use Rattle.rules.specs.Tables.{store_of};
 ghost use Rattle.rules.specs.Limits.{most};
@@ -12,8 +13,9 @@ ghost use Rattle.trace.specs.Served.{Served};
 ghost use Rattle.trace.specs.Came.{Came};
 ghost use Rattle.trace.specs.Turned.{Keeps, Turned};
 
-use libc::{STDERR_FILENO, STDIN_FILENO, STDOUT_FILENO};
 use rules::Store;
+use std::env::{Env, FillError};
+use std::io::{Read, Stdin, Stdout, Write};
 
 // What serving a text comes to.
 #[derive(Drop)]
@@ -26,6 +28,7 @@ enum Lines {
 
 // Answers the lines of a text whose last byte is 10 and writes the answers, as many at a time as out holds.
 fn serve(
+    output: &mut Stdout,
     text: &[u8],
     states: &mut [u8],
     links: &mut [u16],
@@ -68,7 +71,7 @@ fn serve(
         let written = fed.written;
         at = fed.taken;
         low = fed.from;
-        if !io::write_all(STDOUT_FILENO, &out[..written]) {
+        if output.write_all(&out[..written]).is_err() {
             return Lines::Unwritten;
         }
     }
@@ -84,19 +87,17 @@ struct Chunk {
 }
 
 // Reads once behind the bytes that are kept. Where none come, at the end of the input, byte 10 ends a line that is kept.
-fn read_more(buf: &mut [u8], kept: usize) -> Chunk
+fn read_more(input: &mut Stdin, buf: &mut [u8], kept: usize) -> Chunk
     requires { kept < length buf.old }
     ensures { Came buf.old kept buf.new result.end result.last result.failed }
 {
-    let got = libc::read(STDIN_FILENO, &mut buf[kept..]);
-    if got < 0 {
+    let Ok(size) = input.read(&mut buf[kept..]) else {
         return Chunk {
             end: kept,
             last: true,
             failed: true,
         };
-    }
-    let size = io::count(got, &buf[kept..]);
+    };
     if 0 < size {
         return Chunk {
             end: kept + size,
@@ -134,6 +135,8 @@ enum Next {
 
 // Reads more, answers the whole lines and carries the rest to the front.
 fn turn(
+    input: &mut Stdin,
+    output: &mut Stdout,
     buf: &mut [u8],
     kept: usize,
     states: &mut [u8],
@@ -155,13 +158,14 @@ fn turn(
         (store_of most states.new links.new leaders.new holds.new counts.new register.new into.new)
         list.new work.new buf.new result }
 {
-    let chunk = read_more(buf, kept);
+    let chunk = read_more(input, buf, kept);
     if chunk.failed {
         return Next::Unread;
     }
     let end = chunk.end;
     let whole = reader::whole(&buf[..end]);
     let lines = serve(
+        output,
         &buf[..whole],
         states,
         links,
@@ -189,17 +193,18 @@ fn turn(
 }
 
 // Says on standard error that the input could not be read.
-fn say_unread() {
-    io::write_all(STDERR_FILENO, b"trace: the input cannot be read\n");
+fn say_unread(rt: HostRuntime) {
+    let _ = eprintln!(rt; "trace: the input cannot be read");
 }
 
 // Says on standard error that not all answers could be written.
-fn say_unwritten() {
-    io::write_all(STDERR_FILENO, b"trace: the answers cannot be written\n");
+fn say_unwritten(rt: HostRuntime) {
+    let _ = eprintln!(rt; "trace: the answers cannot be written");
 }
 
 // Writes the last line of the output, where the whole input is answered.
 fn finish(
+    rt: HostRuntime,
     states: &[u8],
     links: &[u16],
     leaders: &[u16],
@@ -213,13 +218,15 @@ fn finish(
         × Finished most (store_of most states.now links.now leaders.now holds.now counts.now register.now into.now) × (64 ≤ length out.old) }
 {
     let size = reader::close(Store::MOST, states, leaders, out, 0);
-    if !io::write_all(STDOUT_FILENO, &out[..size]) {
-        say_unwritten();
+    if rt.stdout().write_all(&out[..size]).is_err() {
+        say_unwritten(rt);
     }
 }
 
 // Answers the whole trace; where not all can be read or written, it says so and writes no last line.
-fn run() {
+fn run(rt: HostRuntime) {
+    let mut input = rt.stdin();
+    let mut output = rt.stdout();
     let mut states = [0u8; 1024];
     let mut links = [65535u16; 4096];
     let mut leaders = [65535u16; 1024];
@@ -236,6 +243,8 @@ fn run() {
     let mut turns = u64::MAX;
     while turns > 0 {
         let next = turn(
+            &mut input,
+            &mut output,
             &mut buf,
             kept,
             &mut states,
@@ -261,16 +270,16 @@ fn run() {
             }
             Next::Ended => {
                 finish(
-                    &states, &links, &leaders, &holds, &counts, &register, &into, &mut out,
+                    rt, &states, &links, &leaders, &holds, &counts, &register, &into, &mut out,
                 );
                 return;
             }
             Next::Unread => {
-                say_unread();
+                say_unread(rt);
                 return;
             }
             Next::Unwritten => {
-                say_unwritten();
+                say_unwritten(rt);
                 return;
             }
         }
@@ -278,10 +287,11 @@ fn run() {
 }
 
 // The program takes no arguments; called with one it says how it is called.
-fn main() {
-    if 1 < os::arg_count() {
-        io::write_all(STDERR_FILENO, b"usage: trace < TRACE\n");
-    } else {
-        run();
+fn main(rt: HostRuntime) {
+    match rt.arg(1, &mut [0u8; 1]) {
+        Err(FillError::NotPresent) => run(rt),
+        _ => {
+            let _ = eprintln!(rt; "usage: trace < TRACE");
+        }
     }
 }

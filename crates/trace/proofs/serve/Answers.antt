@@ -1,0 +1,7 @@
+-- What is fed more is served too, and the areas keep their lengths.
+use Rattle.std.proofs.Common.{arith}
+use Rattle.trace.specs.Served.{serving_more}
+use Rattle.trace.proofs.serve.Goals as goal
+
+pub loop-at-preserved : goal.loop-at-preserved
+loop-at-preserved c = (serving_more c.loop-at.invariant.0 c.feed-fed.ensures.0, omega arith)
