@@ -12,8 +12,12 @@ loop-at-smaller-in-Right c =
 pub loop-at-preserved-in-Right : goal.loop-at-preserved-in-Right
 loop-at-preserved-in-Right c =
     let line = right-at c.read.ensures c.in-Right.is c.requires.1 c.loop-at-test.true in
-    let more = feeding_right c.loop-at.invariant.0 (omega (arith, c.if-most-written.false, c.loop-at.invariant.3, c.requires.3)) line in
-    (more (omega (arith, c.act-step.auto)) c.act-step.ensures, omega (arith, c.act-step.auto, c.loop-at.invariant.1), omega (arith, c.act-step.auto, c.loop-at.invariant.2), omega (arith, c.act-step.auto, c.loop-at.invariant.3))
+    let more = feeding_right c.loop-at.invariant.0 (omega (arith, c.if-most-written.false, c.loop-at.invariant.3, c.requires.3)) line in (
+      more (omega (arith, c.act-step.auto)) c.act-step.ensures,
+      omega (arith, c.act-step.auto, c.loop-at.invariant.1),
+      omega (arith, c.act-step.auto, c.loop-at.invariant.2),
+      omega (arith, c.act-step.auto, c.loop-at.invariant.3),
+    )
 
 pub loop-at-preserved : goal.loop-at-preserved
 loop-at-preserved c =
