@@ -1,6 +1,7 @@
 -- A whole lent trace in the room: its whole lines, then what is left of it as a line; only the last line of the output is left.
 use Rattle.std.specs.Prelude.{◌≡◌, refl, List, [], ◌∷◌, ◌++◌, ℕ, ◌+◌, ◌-◌, ◌≤◌, ◌<◌, min, length, take, drop, set}
-use Rattle.std.proofs.Common.{sym, ap, ◌∙◌, subst, append-nil, append_assoc, arith, add-one, length-append, length-take, length-drop, length-set, take-append-drop, length-take-le, get_or-drop, take_all, take-take, take-suc-set}
+use Rattle.std.proofs.Common.{sym, ap, ◌∙◌, subst, arith, add-one}
+use Rattle.std.proofs.Common.{append-nil, append_assoc, length-append, length-take, length-drop, length-set, take-append-drop, length-take-le, get_or-drop, take_all, take-take, take-suc-set}
 use Rattle.std.proofs.Math.Seq.{take-length, paste}
 use Rattle.std.proofs.lemmas.List.Edits.{take-paste}
 use Rattle.rules.specs.Tables.{Store}
