@@ -4,7 +4,7 @@ use Rattle.std.proofs.Math.ListN.{length-replicate}
 use Rattle.rules.specs.Limits.{most}
 use Rattle.rules.specs.Tables.{empty_tables, empty}
 use Rattle.reader.specs.Begun.{begun}
-use Rattle.lending.specs.Lent.{lent_full, lent_place, lent_ready, lent_all}
+use Rattle.lending.specs.Lent.{lent_full, lent_all}
 use Rattle.lending.specs.Begun.{lent_long, lent_short}
 use Rattle.lending.proofs.lent_trace.Goals as goal
 
@@ -20,21 +20,6 @@ unfolding empty empty_tables
 returns-in_default c =
     lent_short c.args.text.now c.args.room.now c.if-text-gt-TRACE.false
     (lent_full c.pour_all-place.ensures (omega (arith, c.pour_all-place.auto)) c.in_default.is c.no_room.ensures)
-
-pub close-k-requires : goal.close-k-requires
-close-k-requires c =
-    let sized = (lent_ready c.pour_all-place.ensures (omega (arith, c.pour_all-place.auto)) c.in-Written.is).sized in (
-      sized.tables.base.most,
-      sized.tables.base.states,
-      sized.tables.leaders,
-      omega (arith, c.pour_all-place.auto, length-replicate {A = ℕ} 8192 0),
-    )
-
-pub finish-requires : goal.finish-requires
-finish-requires c = (
-  lent_place c.pour_all-place.ensures (omega (arith, c.pour_all-place.auto)) c.in-Written.is,
-  omega (arith, c.close-k.ensures.few, c.close-k.auto, c.pour_all-place.auto, length-replicate {A = ℕ} 8192 0),
-)
 
 pub returns : goal.returns
 unfolding empty empty_tables

@@ -1,22 +1,10 @@
 -- `lending::pour_all` pours the whole lines, then what is left of the text as a line that gets its end.
-use Rattle.std.proofs.Common.{sym, arith, length-take-le}
+use Rattle.std.proofs.Common.{arith}
 use Rattle.lending.specs.Filled.{ends_closed, filled_early, filled_stands, filled_place, filled}
 use Rattle.lending.proofs.pour_all.Goals as goal
 
-pub slice_bounds-pour-end : goal.slice_bounds-pour-end
-slice_bounds-pour-end c = sym (length-take-le c.whole-whole.result _ c.whole-whole.ensures.inside)
-
-pub pour-lines-requires : goal.pour-lines-requires
-pour-lines-requires c = (c.requires.0, c.whole-whole.ensures.closed, c.requires.1, omega arith)
-
 pub returns-in_default : goal.returns-in_default
 returns-in_default c = filled_early c.whole-whole.ensures c.pour-lines.ensures c.in_default.is
-
-pub slice_bounds-end_line-count : goal.slice_bounds-end_line-count
-slice_bounds-end_line-count c = omega (arith, c.whole-whole.ensures.inside)
-
-pub slice_bounds-pour-end-2 : goal.slice_bounds-pour-end-2
-slice_bounds-pour-end-2 c = sym (length-take-le c.end_line-end.result _ c.end_line-end.ensures.inside)
 
 pub pour-requires : goal.pour-requires
 pour-requires c =
