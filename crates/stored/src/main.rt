@@ -1,10 +1,13 @@
 // Stored traces: each is answered and compared with the output that is stored beside it.
 #![tactic(auto)]
+
 ghost use Rattle.std.specs.Prelude.{◌≡◌, true, ◌≤◌, length};
 ghost use Rattle.rules.specs.Limits.{most_trace};
 ghost use Rattle.rules.specs.Trace.{trace};
 
-use libc::STDOUT_FILENO;
+use std::env::{Env, FillError};
+use std::fs::File;
+use std::io::Read;
 
 // Whether a trace gives just this output, by way of a room that fits it.
 fn gives(text: &[u8], output: &[u8], room: &mut [u8]) -> bool
@@ -16,50 +19,80 @@ fn gives(text: &[u8], output: &[u8], room: &mut [u8]) -> bool
     if size != output.len() as u64 {
         return false;
     }
-    check::same(room, output)
+    *room == *output
 }
 
-// Reads the file that argument i names, and answers how many bytes came.
-fn read_file(i: usize, text: &mut [u8]) -> usize
-    ensures { result ≤ length text.new }
+// The bytes of argument i that came: none where there is no such argument, or where it does not fit.
+fn word(rt: HostRuntime, i: usize, name: &mut [u8]) -> usize
+    ensures { result ≤ length name.new }
 {
-    let mut name = io::buffer();
-    let size = os::arg(i, &mut name);
-    let file = os::open_read(&name[..size]);
-    let got = io::read_full(file, text);
-    libc::close(file);
-    got
-}
-
-// Says of the trace that argument i names whether it gives its output.
-fn say(i: usize, good: bool) {
-    let mut name = io::buffer();
-    let size = os::arg(i, &mut name);
-    io::write_all(STDOUT_FILENO, &name[..size]);
-    if good {
-        io::write_all(STDOUT_FILENO, b" gives its output\n");
-    } else {
-        io::write_all(STDOUT_FILENO, b" gives something else\n");
+    match rt.arg(i, name) {
+        Ok(size) => size,
+        Err(_) => 0,
     }
 }
 
+// Fills the text with a file's bytes, to the file's end or the text's, and answers how many bytes came.
+fn read_full(file: &mut File, text: &mut [u8]) -> usize
+    ensures { result ≤ length text.new }
+{
+    let mut done = 0;
+    while done < text.len() {
+        let Ok(size) = file.read(&mut text[done..]) else {
+            return done;
+        };
+        if size == 0 {
+            return done;
+        }
+        done += size;
+    }
+    done
+}
+
+// Reads the file that argument i names, and answers how many bytes came.
+fn read_file(rt: HostRuntime, i: usize, text: &mut [u8]) -> usize
+    ensures { result ≤ length text.new }
+{
+    let mut name = [0u8; 4096];
+    let size = word(rt, i, &mut name);
+    let Ok(path) = str::from_utf8(&name[..size]) else {
+        return 0;
+    };
+    let Ok(mut file) = File::open(&rt, path) else {
+        return 0;
+    };
+    read_full(&mut file, text)
+}
+
+// Says of the trace that argument i names whether it gives its output.
+fn say(rt: HostRuntime, i: usize, good: bool) {
+    let mut name = [0u8; 4096];
+    let size = word(rt, i, &mut name);
+    let _ = rt.write_all(&name[..size]);
+    let _ = if good {
+        println!(rt; " gives its output")
+    } else {
+        println!(rt; " gives something else")
+    };
+}
+
 // Compares the trace that argument i names with the output that argument j names.
-fn compare(i: usize, j: usize) {
-    let mut text = io::large_buffer();
-    let mut output = io::large_buffer();
-    let mut room = io::large_buffer();
-    let size = read_file(i, &mut text);
-    let long = read_file(j, &mut output);
+fn compare(rt: HostRuntime, i: usize, j: usize) {
+    let mut text = [0u8; 65536];
+    let mut output = [0u8; 65536];
+    let mut room = [0u8; 65536];
+    let size = read_file(rt, i, &mut text);
+    let long = read_file(rt, j, &mut output);
     let good = gives(&text[..size], &output[..long], &mut room[..long]);
-    say(i, good);
+    say(rt, i, good);
 }
 
 // The arguments: a trace, its output, a trace, its output, ...
-fn main() {
-    let pairs = os::arg_count() / 2;
-    let mut k = 0;
-    while k < pairs {
-        compare(2 * k + 1, 2 * k + 2);
-        k += 1;
+fn main(rt: HostRuntime) {
+    for k in 0..usize::MAX / 2 {
+        match rt.arg(2 * k + 1, &mut [0u8; 1]) {
+            Err(FillError::NotPresent) => return,
+            _ => compare(rt, 2 * k + 1, 2 * k + 2),
+        }
     }
 }
