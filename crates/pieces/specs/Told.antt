@@ -3,7 +3,7 @@ use Rattle.std.specs.Prelude.{◌≡◌, refl, Bool, true, false, ℕ, ◌/◌, 
 use Rattle.std.proofs.Common.{sym, subst, arith}
 use Rattle.rules.specs.Tests.{pick}
 use Rattle.rules.specs.Limits.{none}
-use Rattle.rules.specs.Tables.{Tables, state, is_sound_store}
+use Rattle.rules.specs.Tables.{Tables, is_sound_store}
 use Rattle.rules.specs.Commands.{Verdict, accepted, refused, first_free, value_of}
 use Rattle.rules.specs.Calls.{Values, values_of, SeenValues, seen_values_of, CheckedValues, checked_values_of, Reply, answered, saw, checked}
 use Rattle.rules.specs.Calls.{Call, start, does, check, Areas, Ready, judge, refused_by, refused_call, seen_at, done_by, accepted_by, cleared, accepted_call, ended, outcome_of}

@@ -1,5 +1,6 @@
 // The door for C: the nine calls, each with N, the areas in the rulebook's order, then P, K, T or P and the seat. Each answers one u64.
 #![tactic(auto)]
+
 ghost use Rattle.std.specs.Prelude.{◌≡◌, []};
 ghost use Rattle.rules.specs.Tables.{store_of};
 ghost use Rattle.rules.specs.Calls.{start, does, check, areas_of};
