@@ -53,7 +53,8 @@ module _ (b : Base) (z : SizedBase b) (g : Good b) where
     where
       few : holds_of b p < 1000
       few =
-          nleb→lt 1000 (holds_of b p) (not_T (leb 1000 (holds_of b p)) (λ t. T_not (is_frozen b p & leb 1000 (holds_of b p)) l (and_both (is_frozen b p) (leb 1000 (holds_of b p)) (→is_frozen b p f) t)))
+          nleb→lt 1000 (holds_of b p) (not_T (leb 1000 (holds_of b p)) (λ t.
+          T_not (is_frozen b p & leb 1000 (holds_of b p)) l (and_both (is_frozen b p) (leb 1000 (holds_of b p)) (→is_frozen b p f) t)))
 
   freeze_good : (p : ℕ) → p < b.n → T (not (is_free b p)) → T (not (is_frozen b p & leb 1000 (holds_of b p))) → Good (pick (is_frozen b p) (one_more b p) (freeze_first b p))
   unfolding fr

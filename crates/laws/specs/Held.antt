@@ -13,7 +13,8 @@ use Rattle.rules.specs.Tests.{◌or◌, ◌&◌, pick, only_if}
 use Rattle.rules.specs.Reach.{here}
 use Rattle.rules.specs.Tables.{Base, is_free, is_frozen, holds_of, is_kept}
 use Rattle.rules.specs.Words.{SizedBase}
-use Rattle.rules.specs.Commands.{piece_of, is_freeze, is_acquire, is_release, not_held, table_refusals, with_states, with_links, with_holds, one_more, one_less, free_all, gone, freeze_first, edit, settles, after}
+use Rattle.rules.specs.Commands.{piece_of, is_freeze, is_acquire, is_release, not_held, table_refusals, with_states, with_links, with_holds}
+use Rattle.rules.specs.Commands.{one_more, one_less, free_all, gone, freeze_first, edit, settles, after}
 use Rattle.rules.specs.declared.Refusal.TheVariants.{Number, Free, State, NotHeld}
 use Rattle.rules.specs.declared.Command.{Command}
 use Rattle.rules.specs.declared.Command.TheVariants.{New, Set, Freeze, Acquire, Release, Bin, Look}
