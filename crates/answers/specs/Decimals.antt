@@ -1,19 +1,14 @@
 -- Decimal numbers: how long they are, and their digits.
-use Rattle.std.specs.Prelude.{◌≡◌, refl, ◌⊎◌, Bool, true, false, List, [], ◌∷◌, ◌++◌, ℕ, zero, suc, ◌+◌, ◌-◌, ◌*◌, ◌/◌, ◌%◌, ◌^◌, ◌≤◌, ◌<◌, ltb, length}
-use Rattle.std.proofs.Common.{sym, ap, ◌∙◌, inl, inr, ⊎_elim, arith, add-one, ltb-true, ltb-false, lt-ltb, le-ltb, eq-eqb, ne_eqb, length-append}
+use Rattle.std.specs.Prelude.{◌≡◌, refl, Bool, true, false, ltb, List, [], ◌∷◌, ◌++◌, length}
+use Rattle.std.specs.Prelude.{ℕ, zero, suc, ◌+◌, ◌-◌, ◌*◌, ◌/◌, ◌%◌, ◌^◌, ◌≤◌, ◌<◌}
+use Rattle.std.proofs.Common.{sym, ap, ◌∙◌, ⊎_elim, arith, add-one, lt-ltb, le-ltb, eq-eqb, ne_eqb, length-append}
 use Rattle.std.proofs.Math.Nat.{pow-le-pow_right}
+use Rattle.std.proofs.lemmas.Bool.{cases_lt}
+use Rattle.std.proofs.lemmas.Fmt.{decimal_from_appends, length-decimal-le}
 use Rattle.rules.specs.Tests.{pick}
 use Rattle.rules.specs.Limits.{none}
 use Rattle.rules.specs.Trace.{decimal_in, decimal, value_or}
 use Rattle.answers.specs.Wrote.{digits_of}
-
--- one digit, or more
-few_or_more : (v : ℕ) → (v < 10) ⊎ (10 ≤ v)
-few_or_more v = by_test (ltb v 10) refl
-  where
-    by_test : (b : Bool) → ltb v 10 ≡ b → (v < 10) ⊎ (10 ≤ v)
-    by_test true e = inl (ltb-true v 10 e)
-    by_test false e = inr (ltb-false v 10 e)
 
 in_small : (k v : ℕ) → v < 10 → decimal_in (suc k) v ≡ (48 + v) ∷ []
 unfolding decimal_in
@@ -49,6 +44,14 @@ pub decimal_width : (j : ℕ) {v : ℕ} → j < 10 → 10 ^ j ≤ v → v < 10 ^
 unfolding decimal
 decimal_width j {v} i l h = sym (in_width 10 j v i l h)
 
+-- a number has at most k digits below that power of ten, as the library's decimal has
+library_length : (k v : ℕ) → 0 < k → k ≤ 10 → v < 10 ^ k → length (decimal v) ≤ k
+unfolding decimal
+library_length k v p h l =
+    let few : v < 10 ^ 10 = omega (arith, pow-le-pow_right {n = 10} (omega arith) {i = k} {j = 10} h) in
+    rw (decimal_from_appends decimal_in (record { one = in_small; more = in_more }) 10 v (omega arith) (length-decimal-le 10 v (omega arith) few (omega arith)))
+    (length-decimal-le k v p l (omega arith))
+
 -- at most k digits
 in_length : (k v : ℕ) → length (decimal_in k v) ≤ k
 unfolding decimal_in
@@ -63,26 +66,15 @@ pub decimal_ten : (v : ℕ) → length (decimal v) ≤ 10
 unfolding decimal
 decimal_ten v = in_length 10 v
 
--- at most j digits below the power of ten
-in_within : (k j v : ℕ) → 1 ≤ j → v < 10 ^ j → length (decimal_in k v) ≤ j
-in_within zero j v i h = omega (arith, in_length 0 v)
-in_within (suc k) zero v i h = absurd (omega arith)
-in_within (suc k) (suc zero) v i h = rw (in_small k v (omega arith)) (omega arith)
-in_within (suc k) (suc (suc j)) v i h = ⊎_elim (λ l. rw (in_small k v l) (omega arith)) (λ l. longer l (in_within k (suc j) (v / 10) (omega arith) (omega arith))) (few_or_more v)
-  where
-    longer : 10 ≤ v → length (decimal_in k (v / 10)) ≤ suc j → length (decimal_in (suc k) v) ≤ suc (suc j)
-    longer l e = rw (in_more k v l, length-append) (omega arith)
-
--- a number of 16 bits has at most 5 digits
+-- a number of 16 bits has at most 5
 pub decimal_five : (v : ℕ) → v < 65536 → length (decimal v) ≤ 5
-unfolding decimal
-decimal_five v h = in_within 10 5 v (omega arith) (omega arith)
+decimal_five v h = library_length 5 v (omega arith) (omega arith) (omega arith)
 
 -- a decimal number is its digits
 in_digits : (k v : ℕ) → decimal_in k v ≡ digits_of (length (decimal_in k v)) v
 unfolding decimal_in digits_of
 in_digits zero v = refl
-in_digits (suc k) v = ⊎_elim small (more (in_digits k (v / 10))) (few_or_more v)
+in_digits (suc k) v = ⊎_elim small (more (in_digits k (v / 10))) (cases_lt v 10)
   where
     small : v < 10 → decimal_in (suc k) v ≡ digits_of (length (decimal_in (suc k) v)) v
     small l = let e : v % 10 ≡ v = omega arith in rw (in_small k v l, e)
@@ -114,3 +106,9 @@ decimal-three v l h =
     let b : v / 10 % 10 ≡ (v - 100 * (v / 100)) / 10 % 10 = omega arith in
     let d : v % 10 ≡ (v - 100 * (v / 100)) % 10 = omega arith in
     decimal-digits v ∙ ap (λ (k : ℕ). digits_of k v) (sym (decimal_width 2 {v = v} (omega arith) (omega arith) (omega arith))) ∙ rw (a, b, d)
+
+-- as many digits as powers of ten are reached, and one
+pub reached_width : (k v : ℕ) → 0 < k → k ≤ 10 → (1 < k → 10 ^ (k - 1) ≤ v) → v < 10 ^ k → k ≡ length (decimal v)
+reached_width zero v p i l h = absurd (omega arith)
+reached_width (suc zero) v p i l h = rw (decimal_small v (omega arith))
+reached_width (suc (suc k)) v p i l h = let e : suc (suc k) - 1 ≡ suc k = omega arith in decimal_width (suc k) (omega arith) (rw e at l (omega arith)) h

@@ -2,3 +2,4 @@ pub mod Wrote
 pub mod Decimals
 pub mod Writes
 pub mod Replies
+pub mod Page

@@ -1,5 +1,5 @@
 -- A command's reply and the list that it leaves give the line that the trace answers.
-use Rattle.std.specs.Prelude.{◌≡◌, refl, List, [], ℕ, length, drop}
+use Rattle.std.specs.Prelude.{◌≡◌, refl, List, [], ℕ, length, drop, Some}
 use Rattle.std.proofs.Math.Seq.{take-append_seam}
 use Rattle.rules.specs.Tables.{Base, Tables, Store, is_draft, is_frozen}
 use Rattle.rules.specs.Commands.{Verdict, accepted, refused, verdict, freed_by, value_of}
@@ -8,7 +8,6 @@ use Rattle.rules.specs.Trace.{answer_line, look_line, accepted_line, line_by, an
 use Rattle.rules.specs.declared.Command.{Command}
 use Rattle.rules.specs.declared.Command.TheVariants.{New, Set, Freeze, Acquire, Release, Bin, Look}
 use Rattle.rules.specs.declared.Refusal.{Refusal}
-use Rattle.rules.specs.declared.Line.TheVariants.{Does}
 use Rattle.answers.specs.Wrote.{line_of, closing_line}
 
 -- the line of a reply; no command replies as check does
@@ -50,7 +49,7 @@ by_verdict s l c (refused r) = refused_reply r s.tables l c
 
 -- what a command's line answers, from what the command itself replies and leaves in the list
 pub reply_line_lem : (s : Store) (l : List ℕ) (c : Command)
-    → reply_line (effect_of s l c).reply (effect_of s l c).list ≡ answer_to s (Does c)
+    → reply_line (effect_of s l c).reply (effect_of s l c).list ≡ answer_to s (Some c)
 unfolding effect_of answer_to
 reply_line_lem s l c = by_verdict s l c (verdict s c)
 

@@ -1,6 +1,6 @@
 -- Writes one after another.
-use Rattle.std.specs.Prelude.{◌≡◌, refl, List, [], ◌∷◌, ◌++◌, ℕ, zero, suc, ◌+◌, ◌-◌, ◌/◌, ◌%◌, ◌≤◌, ◌<◌, length, get_or, set, take}
-use Rattle.std.proofs.Common.{sym, ◌∙◌, append_assoc, append-nil, arith, add-one, add-zero, length-append, take-suc, length-take-le}
+use Rattle.std.specs.Prelude.{◌≡◌, refl, List, [], ◌∷◌, ◌++◌, ℕ, zero, suc, ◌+◌, ◌-◌, ◌/◌, ◌%◌, ◌<◌, length, get_or, set, take}
+use Rattle.std.proofs.Common.{sym, ◌∙◌, append_assoc, append-nil, arith, add-one, add-zero, length-append, take-suc}
 use Rattle.std.proofs.lemmas.List.Edits.{sets}
 use Rattle.std.proofs.lemmas.List.{set_comm}
 use Rattle.rules.specs.Trace.{decimal, value_or, spaced, answer_line}
@@ -53,16 +53,6 @@ unfolding spaced
 spaced-more l i h = rw (add-one i, take-suc l i 0 h, spaced_append, append-nil)
 
 -- ---- lines, part by part
-
-pub done_line : (l : List ℕ) (value freed : ℕ) → freed ≤ length l
-    → answer_line 0 value (take freed l)
-    ≡ decimal 0 ++ (32 ∷ (value_or value ++ (32 ∷ (decimal freed ++ (spaced (take freed l) ++ (10 ∷ []))))))
-unfolding answer_line
-done_line l value freed h = rw (length-take-le freed l h)
-
--- where nothing is freed
-pub unfreed_line : (l : List ℕ) (value freed : ℕ) → freed ≡ 0 → answer_line 0 value (take freed l) ≡ answer_line 0 value []
-unfreed_line l value freed e = rw e
 
 pub plain_line : (number value : ℕ)
     → answer_line number value [] ≡ decimal number ++ (32 ∷ (value_or value ++ (32 ∷ (decimal 0 ++ (10 ∷ [])))))

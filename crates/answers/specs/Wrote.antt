@@ -1,11 +1,10 @@
 -- Bytes written into a lent room, and the lines that are written there.
-use Rattle.std.specs.Prelude.{◌≡◌, List, [], ◌∷◌, ◌++◌, ℕ, zero, suc, ◌+◌, ◌*◌, ◌/◌, ◌%◌, length, take}
+use Rattle.std.specs.Prelude.{◌≡◌, List, [], ◌∷◌, ◌++◌, ℕ, zero, suc, ◌+◌, ◌*◌, ◌/◌, ◌%◌, length, take, Ok, Err}
 use Rattle.std.proofs.lemmas.List.Edits.{sets}
 use Rattle.rules.specs.Limits.{most, none}
 use Rattle.rules.specs.Calls.{number_of}
 use Rattle.rules.specs.Trace.{decimal, value_or, spaced, answer_line}
-use Rattle.rules.specs.declared.Answer.{Answer}
-use Rattle.rules.specs.declared.Answer.TheVariants.{Done, Refused}
+use Rattle.rules.specs.Replies.{Answer}
 
 -- the most bytes of a line: 64, and 6 for each freed number
 abbrev pub longest : ℕ
@@ -23,8 +22,8 @@ digits_of (suc k) v = digits_of k (v / 10) ++ ((48 + v % 10) ∷ [])
 
 -- the line of an answer, whose freed numbers are the first of the list
 abbrev pub line_of : Answer → List ℕ → List ℕ
-line_of (Done value freed) list = answer_line 0 value (take freed list)
-line_of (Refused r) list = answer_line (number_of r) none []
+line_of (Ok d) list = answer_line 0 d.value (take d.freed list)
+line_of (Err r) list = answer_line (number_of r) none []
 
 -- An accepted look gives `0`, state, leader or `-`, count, holds
 abbrev pub piece_line : ℕ → ℕ → ℕ → ℕ → List ℕ

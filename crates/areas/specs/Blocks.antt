@@ -1,26 +1,12 @@
 -- A block of numbers that is looked at as a whole: whether one of them is free.
 use Rattle.std.specs.Prelude.{◌≡◌, Bool, true, false, List, ℕ, ◌+◌, ◌-◌, ◌<◌, get_or}
-use Rattle.std.proofs.Common.{sym, ◌∙◌, subst, ⊎_elim, arith}
-use Rattle.laws.specs.Numbers.{eq_or, lt_or}
+use Rattle.std.proofs.Common.{sym, subst, ⊎_elim, arith}
+use Rattle.laws.specs.Numbers.{lt_or}
 use Rattle.areas.specs.Lowest.{NoneFree}
 
 -- r is false only if none of the k numbers from a on is free
 pub record Shows (states : List ℕ) (a k : ℕ) (r : Bool) : Type 0 where
   pub seen : (i : ℕ) → i < k → get_or states (a + i) 0 ≡ 0 → r ≡ true
-
-pub shows_start : {states : List ℕ} {a : ℕ} {r : Bool} → Shows states a 0 r
-shows_start = record { seen = λ i l x. absurd (omega arith) }
-
--- the next number is free
-pub shows_on : {states : List ℕ} {a k : ℕ} {r : Bool} → r ≡ true → Shows states a k r
-shows_on e = record { seen = λ i l x. e }
-
--- it is not
-pub shows_off : {states : List ℕ} {a k : ℕ} {r r' : Bool} → Shows states a k r → r' ≡ r → (get_or states (a + k) 0 ≡ 0 → ⊥) → Shows states a (k + 1) r'
-shows_off {states} {a} {k} d e f = record {
-  seen = λ i l x.
-      ⊎_elim (λ y. absurd (f (subst (λ (j : ℕ). get_or states (a + j) 0 ≡ 0) y x))) (λ y. e ∙ d.seen i (omega arith) x) (eq_or i k);
-}
 
 -- a block that shows none has none
 pub shows-none : {states : List ℕ} {a k : ℕ} {r : Bool} → Shows states a k r → r ≡ false → (i : ℕ) → i < k → get_or states (a + i) 0 ≡ 0 → ⊥

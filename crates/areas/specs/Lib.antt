@@ -1,3 +1,4 @@
 pub mod Lowest
 pub mod Four
 pub mod Blocks
+pub mod Read

@@ -1,84 +1,39 @@
-// Leaves over the areas: filling, sizes, the lowest free number, one piece's links.
+// Leaves over the areas: the tables as they are read, sizes, the lowest free number, one piece's links.
 #![tactic(auto)]
 
-ghost use Rattle.std.specs.Prelude.{◌≡◌, ◌++◌, ◌+◌, ◌*◌, ◌≤◌, ◌<◌, length, drop, replicate};
-ghost use Rattle.rules.specs.Tables.{tables_of};
+ghost use Rattle.std.specs.Prelude.{◌≡◌, ◌+◌, ◌*◌, ◌≤◌, ◌<◌, length};
 ghost use Rattle.rules.specs.Calls.{is_sized};
+ghost use Rattle.areas.specs.Read.{told};
 ghost use Rattle.areas.specs.Lowest.{NoneFree, LowestFree};
 ghost use Rattle.areas.specs.Blocks.{Shows};
 ghost use Rattle.areas.specs.Four.{Four};
 
 use rules::Store;
 
-// Sets the first k entries to v.
-pub fn fill_u8(a: &mut [u8], k: usize, v: u8)
-    requires { k ≤ length a.old }
-    ensures { a.new ≡ replicate k v ++ drop k a.old }
-{
-    let mut i = 0;
-    while i < k {
-        a[i] = v;
-        i += 1;
-    }
-}
-
-// Sets the first k entries to v.
-pub fn fill_u16(a: &mut [u16], k: usize, v: u16)
-    requires { k ≤ length a.old }
-    ensures { a.new ≡ replicate k v ++ drop k a.old }
-{
-    let mut i = 0;
-    while i < k {
-        a[i] = v;
-        i += 1;
-    }
-}
-
-// Sets the first k entries to v.
-pub fn fill_u32(a: &mut [u32], k: usize, v: u32)
-    requires { k ≤ length a.old }
-    ensures { a.new ≡ replicate k v ++ drop k a.old }
-{
-    let mut i = 0;
-    while i < k {
-        a[i] = v;
-        i += 1;
-    }
+// The store's tables where they are read.
+#[derive(Clone, Copy)]
+pub struct Tables<'a> {
+    pub n: usize,
+    pub states: &'a [u8],
+    pub links: &'a [u16],
+    pub leaders: &'a [u16],
+    pub holds: &'a [u16],
+    pub counts: &'a [u32],
 }
 
 // Whether n is a capacity and each area of the store has exactly its length.
-pub fn sized(
-    n: usize,
-    states: &[u8],
-    links: &[u16],
-    leaders: &[u16],
-    holds: &[u16],
-    counts: &[u32],
-) -> bool
-    ensures { result ≡ is_sized (tables_of n states.now links.now leaders.now holds.now counts.now) }
+#[tactic(auto, unfolding(rules::specs::Calls::is_sized))]
+pub fn sized(tables: Tables) -> bool
+    ensures { result ≡ is_sized (told tables.entry) }
 {
-    if n < 1 {
-        return false;
-    }
-    if Store::MOST < n {
-        return false;
-    }
-    if states.len() != n {
-        return false;
-    }
-    if links.len() != Store::LINKS * n {
-        return false;
-    }
-    if leaders.len() != n {
-        return false;
-    }
-    if holds.len() != n {
-        return false;
-    }
-    if counts.len() != n {
-        return false;
-    }
-    true
+    let n = tables.n;
+    1 <= n
+        && n <= Store::MOST
+        && tables.states.len() == n
+        && tables.links.len() == Store::LINKS * n
+        && tables.leaders.len() == n
+        && tables.holds.len() == n
+        && tables.counts.len() == n
 }
 
 // The lowest free number, or n, where no number below from is free: number by number.
@@ -86,14 +41,12 @@ fn lowest_near(n: usize, states: &[u8], from: usize) -> usize
     requires { (length states.now ≡ n) × (from ≤ n) × NoneFree states.now from }
     ensures { LowestFree n states.now result }
 {
-    let mut p = from;
-    while p < n {
+    for p in from..n {
         if states[p] == Store::FREE {
             return p;
         }
-        p += 1;
     }
-    p
+    n
 }
 
 // Whether one of the `size` numbers from `from` on is free.
@@ -102,12 +55,8 @@ fn shows(states: &[u8], from: usize, size: usize) -> bool
     ensures { Shows states.now from size result }
 {
     let mut some = false;
-    let mut i: usize = 0;
-    while i < size {
-        if states[from + i] == Store::FREE {
-            some = true;
-        }
-        i += 1;
+    for state in &states[from..from + size] {
+        some |= *state == Store::FREE;
     }
     some
 }
@@ -144,11 +93,11 @@ pub fn lowest_free(n: usize, states: &[u8], from: usize) -> usize
 }
 
 // The word of four empty links, and the lowest of those whose last three are empty, and last two.
-pub const FOUR_NONE: u64 = 18446744073709551615;
+pub const FOUR_NONE: u64 = u64::MAX;
 
-pub const ONE_AT_MOST: u64 = 18446744073709486080;
+pub const ONE_AT_MOST: u64 = u64::MAX << 16;
 
-pub const TWO_AT_MOST: u64 = 18446744069414584320;
+pub const TWO_AT_MOST: u64 = u64::MAX << 32;
 
 // The four links of a piece as one word, the first lowest.
 pub fn four(links: &[u16], p: usize) -> u64

@@ -1,7 +1,8 @@
 // Bin on sound tables: draft P becomes free, where no other piece links to it.
+// The areas come one by one: some are read and some are written, and a struct of `&mut` slices would need a clause for each that it stays the same slice.
 #![tactic(auto)]
 
-ghost use Rattle.std.specs.Prelude.{◌≡◌, [], ◌∷◌, ◌*◌, ◌≤◌, ◌<◌, length};
+ghost use Rattle.std.specs.Prelude.{◌≡◌, ◌*◌, ◌≤◌, ◌<◌, length};
 ghost use Rattle.rules.specs.Tables.{tables_of};
 ghost use Rattle.rules.specs.Calls.{answered, Ready};
 ghost use Rattle.rules.specs.declared.Command.TheVariants.{Bin};
@@ -12,40 +13,35 @@ ghost use Rattle.editing.specs.Started.{Tippings, Tumbled};
 ghost use Rattle.editing.specs.Emptied.{Emptying, Emptied};
 ghost use Rattle.editing.specs.Bin.{Binning};
 
-use naming::Name;
-use rules::{Answer, Refusal, Store};
+use rules::{Answer, Done, Refusal, Store};
 
 // Empties the four places of draft p.
 fn empty_places(n: usize, links: &mut [u16], leaders: &[u16], counts: &mut [u32], p: usize)
     requires { Emptying n links.old leaders.now counts.old p }
     ensures { Emptied n links.old leaders.now counts.old p 4 links.new counts.new }
 {
-    let mut k: usize = 0;
-    while k < 4 {
+    for k in 0..Store::LINKS {
         linking::relink(n, links, leaders, counts, p, k, Store::NONE);
-        k += 1;
     }
 }
 
-// Puts the leaders of the groups of a, b, c and d into the queue, those whose count has fallen to 0. Gives how many.
-fn fall_four(
+// Puts the leaders of the groups of these pieces into the queue, those whose count has fallen to 0. Gives how many.
+fn fall_each(
     n: usize,
     states: &mut [u8],
     leaders: &[u16],
     counts: &[u32],
     list: &mut [u16],
-    a: usize,
-    b: usize,
-    c: usize,
-    d: usize,
+    named: &[u16],
 ) -> usize
-    requires { Tippings n states.old leaders.now counts.now list.old 0 (a ∷ b ∷ c ∷ d ∷ []) }
-    ensures { Tumbled n states.old leaders.now counts.now list.old 0 (a ∷ b ∷ c ∷ d ∷ []) states.new list.new result }
+    requires { Tippings n states.old leaders.now counts.now list.old 0 named.now }
+    ensures { Tumbled n states.old leaders.now counts.now list.old 0 named.now states.new list.new result }
 {
-    let one = letting_go::fall(n, states, leaders, counts, list, a, 0);
-    let two = letting_go::fall(n, states, leaders, counts, list, b, one);
-    let three = letting_go::fall(n, states, leaders, counts, list, c, two);
-    letting_go::fall(n, states, leaders, counts, list, d, three)
+    let mut tail = 0;
+    for &t in named {
+        tail = letting_go::fall(n, states, leaders, counts, list, t as usize, tail);
+    }
+    tail
 }
 
 // Draft p, which no other piece names, becomes free; then every frozen piece no longer kept does. Gives how many frozen pieces.
@@ -65,13 +61,11 @@ fn bin_draft(
         (tables_of n states.new links.new leaders.new holds.now counts.new) list.new result }
 {
     let at = Store::LINKS * p;
-    let a = links[at] as usize;
-    let b = links[at + 1] as usize;
-    let c = links[at + 2] as usize;
-    let d = links[at + 3] as usize;
+    let mut named = [Store::NONE; Store::LINKS];
+    named.copy_from_slice(&links[at..at + Store::LINKS]);
     empty_places(n, links, leaders, counts, p);
     states[p] = Store::FREE;
-    let first = fall_four(n, states, leaders, counts, list, a, b, c, d);
+    let first = fall_each(n, states, leaders, counts, list, &named);
     if first == 0 {
         return 0;
     }
@@ -96,21 +90,18 @@ pub fn bin(
         (tables_effect (answered result) (tables_of n states.new links.new leaders.new holds.now counts.new) list.new)
         × Into n states.new links.new into.new }
 {
-    match naming::piece(n, states, p) {
-        Name::Wrong(refusal) => return Answer::Refused(refusal),
-        Name::Right => {}
-    }
+    naming::piece(n, states, p)?;
     let at = p as usize;
     if states[at] == Store::FROZEN {
-        return Answer::Refused(Refusal::State);
+        return Err(Refusal::State);
     }
     if into[at] != 0 {
-        return Answer::Refused(Refusal::Linked);
+        return Err(Refusal::Linked);
     }
     into::forget(n, states, links, into, at);
     let freed = bin_draft(n, states, links, leaders, holds, counts, list, at) as u16;
-    Answer::Done {
+    Ok(Done {
         value: Store::NONE,
         freed,
-    }
+    })
 }

@@ -11,14 +11,7 @@ pub fn carry(buf: &mut [u8], from: usize, to: usize) -> usize
     requires { (from ≤ to) × (to ≤ length buf.old) }
     ensures { Carried buf.old from to buf.new result }
 {
-    let mut size = to - from;
-    if ENOUGH < size {
-        size = ENOUGH;
-    }
-    let mut i = 0;
-    while i < size {
-        buf[i] = buf[from + i];
-        i += 1;
-    }
+    let size = ENOUGH.min(to - from);
+    buf.copy_within(from..from + size, 0);
     size
 }

@@ -1,7 +1,6 @@
 -- The lines of a text, part by part: a part in which no line ends, the end of a line, and a last line without its end.
 use Rattle.std.specs.Prelude.{◌≡◌, List, [], ◌∷◌, ◌++◌, ℕ, suc, ◌<◌, length}
-use Rattle.std.proofs.Math.Path.{refl}
-use Rattle.std.proofs.Common.{sym, ap, ◌∙◌, append_assoc, append-nil, arith, ne_eqb}
+use Rattle.std.proofs.Common.{sym, ap, ◌∙◌, append_assoc, append-nil, arith, ne_eqb, refl}
 use Rattle.rules.specs.Trace.{lines_from}
 use Rattle.lines.specs.Ending.{Unended}
 

@@ -1,6 +1,7 @@
 -- A line longer than 64 bytes is bad whatever its bytes, so the first 65 bytes of an unfinished line are enough to keep.
-use Rattle.std.specs.Prelude.{◌⊎◌, ◌≡◌, refl, Bool, true, false, List, [], ◌∷◌, ◌++◌, ℕ, ◌≤◌, ◌<◌, eqb, leb, length, take}
-use Rattle.std.proofs.Common.{inl, inr, ⊎_elim, sym, ◌∙◌, arith, leb-true, leb-false, take_all, length-take-le, take-take}
+use Rattle.std.specs.Prelude.{◌≡◌, refl, Bool, true, false, List, [], ◌∷◌, ◌++◌, ℕ, eqb, length, take}
+use Rattle.std.proofs.Common.{⊎_elim, sym, ◌∙◌, arith, take_all, length-take-le, take-take}
+use Rattle.std.proofs.lemmas.Bool.{cases_lt}
 use Rattle.std.proofs.lemmas.List.{take-append-le}
 use Rattle.rules.specs.Tests.{pick}
 use Rattle.rules.specs.Tables.{Store}
@@ -11,30 +12,22 @@ use Rattle.lines.specs.Says.{says_long}
 abbrev pub enough : ℕ
 enough = 65
 
--- at most so many bytes, or more
-short_or_long : (l : List ℕ) → (length l ≤ enough) ⊎ (enough < length l)
-short_or_long l = by_test (leb (length l) enough) refl
-  where
-    by_test : (t : Bool) → leb (length l) enough ≡ t → (length l ≤ enough) ⊎ (enough < length l)
-    by_test true e = inl (leb-true (length l) enough e)
-    by_test false e = inr (leb-false (length l) enough e)
-
 -- a line says what its first 65 bytes say
 says_short : (l : List ℕ) → says l ≡ says (take enough l)
 says_short l =
     ⊎_elim
-    (λ s. rw (take_all enough l s))
     (λ s. let n : length (take enough l) ≡ enough = length-take-le enough l (omega arith) in
     says_long l (omega arith) ∙ sym (says_long (take enough l) (omega arith)))
-    (short_or_long l)
+    (λ s. rw (take_all enough l s))
+    (cases_lt enough (length l))
 
 short_append : (begun part : List ℕ) → take enough (take enough begun ++ part) ≡ take enough (begun ++ part)
 short_append begun part =
     ⊎_elim
-    (λ s. rw (take_all enough begun s))
     (λ s. let n : length (take enough begun) ≡ enough = length-take-le enough begun (omega arith) in
     take-append-le enough (take enough begun) part (omega arith) ∙ take-take enough enough begun (omega arith) ∙ sym (take-append-le enough begun part (omega arith)))
-    (short_or_long begun)
+    (λ s. rw (take_all enough begun s))
+    (cases_lt enough (length begun))
 
 -- ---- two unfinished lines with the same first 65 bytes give the same output, whatever follows
 

@@ -108,13 +108,13 @@ pieces_more {links = links} {holds} {leaders} {q} a b d = record {
 
 module _ {n : ℕ} {links holds leaders : List ℕ} {q : ℕ} {c c' : List ℕ} (a : PiecesCounted n links holds leaders q c c') (z : (l : ℕ) → l < n → c ! l ≡ 0) where
   -- counted from 0, the sums fit where holds are 16 bits wide
-  pub pieces_fit : n ≤ 1024 → ((p : ℕ) → holds ! p < 65536) → q ≤ n → (l : ℕ) → l < n → c' ! l ≤ 67111936
+  pub pieces_fit : n ≤ 1024 → ((p : ℕ) → p < q → holds ! p < 65536) → q ≤ n → (l : ℕ) → l < n → c' ! l ≤ 67111936
   unfolding held placed
   pieces_fit small b h l u = omega (
     arith,
     a.added.sums l u,
     z l u,
-    sum-most (held holds leaders l) 65535 q (λ p _. only_if-most (eqb (label leaders p) l) (holds ! p) 65535 (omega (arith, b p))),
+    sum-most (held holds leaders l) 65535 q (λ p k. only_if-most (eqb (label leaders p) l) (holds ! p) 65535 (omega (arith, b p k))),
     sum-most (placed links leaders l) 1 (4 * q) (λ i _. cross-most leaders l i (links ! i)),
   )
 

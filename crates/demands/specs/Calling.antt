@@ -1,5 +1,5 @@
 -- A trace is a history: its lines' calls follow each other on one store, and its answers are the calls'; so demands 2 and 3 hold of every trace.
-use Rattle.std.specs.Prelude.{◌≡◌, Bool, not, ℕ, ◌*◌, ◌≤◌, T, eqb, leb, length, replicate}
+use Rattle.std.specs.Prelude.{◌≡◌, Bool, not, ℕ, ◌*◌, ◌≤◌, T, eqb, leb, length, replicate, Err, Some, None}
 use Rattle.std.proofs.Math.Path.{refl, ap}
 use Rattle.std.proofs.Common.{sym, ◌∙◌, subst, ⊎_elim, arith, le→leb}
 use Rattle.std.proofs.Math.Bool.{true, false}
@@ -16,16 +16,13 @@ use Rattle.rules.specs.History.{Event, event, is_accepted, History, begun, refus
 use Rattle.rules.specs.Calling.{lent_to, came_of, call_of, calls_of, left_by, line_in, line_of, answer_of, answers_of}
 use Rattle.rules.specs.declared.Refusal.{Refusal}
 use Rattle.rules.specs.declared.Command.{Command}
-use Rattle.rules.specs.declared.Answer.TheVariants.{Refused}
-use Rattle.rules.specs.declared.Seen.TheVariants.{Unseen}
-use Rattle.rules.specs.declared.Line.{Line}
-use Rattle.rules.specs.declared.Line.TheVariants.{Does, Bad}
 use Rattle.laws.specs.Tests.{and_both}
 use Rattle.laws.specs.Below.{T_dec}
 use Rattle.laws.specs.Calls.{→sized_store, judge_through, refused_stays}
 use Rattle.demands.specs.Sound.{OkStore, →sound_store}
 use Rattle.demands.specs.History.{follows}
 use Rattle.demands.specs.Demand3.{listed_is, demand3}
+use Rattle.rules.specs.Replies.{Line}
 
 -- the areas of a line's call have their lengths
 lent_right : (s : Store) (c : Command) → 1 ≤ s.tables.base.n → OkStore s → T (is_lent (lent_to s c) (does c))
@@ -60,7 +57,7 @@ module _ (s : Store) (c : Command) (least : 1 ≤ s.tables.base.n) (o : OkStore 
       go (refused r) = unfold ended settled in (same (eqb (number_of r) 1))
 
   -- and answers what the line answers
-  came-line : answer_to s (Does c) ≡ line_of (came_of s c)
+  came-line : answer_to s (Some c) ≡ line_of (came_of s c)
   unfolding answer_to line_of line_by accepted_line ended accepted_call accepted_by cleared refused_call refused_by
   came-line = go (verdict s c) refl
     where
@@ -72,7 +69,7 @@ module _ (s : Store) (c : Command) (least : 1 ≤ s.tables.base.n) (o : OkStore 
       look true = unfold line_in in refl
       look false = unfold line_in done_by in refl
 
-      no : (r : Refusal) (b : Bool) (l : List ℕ) → answer_line (number_of r) none [] ≡ line_in (pick b (saw (Unseen r)) (answered (Refused r))) l
+      no : (r : Refusal) (b : Bool) (l : List ℕ) → answer_line (number_of r) none [] ≡ line_in (pick b (saw (Err r)) (answered (Err r))) l
       no r true l = unfold line_in in refl
       no r false l = unfold line_in in refl
 
@@ -90,7 +87,7 @@ module _ (s : Store) (c : Command) (least : 1 ≤ s.tables.base.n) (o : OkStore 
 -- one more line makes the history one call longer, or leaves it
 line_history : (n : ℕ) → 1 ≤ n → n ≤ most → (s : Store) (h : List Event) (l : Line) → History n h s → History n (call_of s l h) (store_after s l)
 unfolding call_of store_after
-line_history n least small s h (Does c) past = ⊎_elim
+line_history n least small s h (Some c) past = ⊎_elim
     (λ t. subst (History n (event (does c) (came_of s c) ∷ h)) (came_store s c first ok) (accepting (does c) (lent_to s c) (came_of s c) past kept t))
     (λ t. subst (History n (event (does c) (came_of s c) ∷ h)) (sym (stays t) ∙ came_store s c first ok) (refusing (does c) (lent_to s c) (came_of s c) past kept t))
     (T_dec (is_accepted (came_of s c).reply))
@@ -106,7 +103,7 @@ line_history n least small s h (Does c) past = ⊎_elim
 
     stays : T (not (is_accepted (came_of s c).reply)) → (came_of s c).areas.store ≡ s
     stays t = unfold came_of in (refused_stays (lent_to s c) (does c) t).0
-line_history n least small s h Bad past = past
+line_history n least small s h None past = past
 
 lines_history : (n : ℕ) → 1 ≤ n → n ≤ most → (s : Store) (h : List Event) (ls : List (List ℕ)) → History n h s → History n (calls_of s ls h) (left_by s ls)
 unfolding calls_of left_by
@@ -124,8 +121,8 @@ lines_answered n least small s h (l ∷ ls) past =
     ∙ sym (append_assoc (answer_of s (says l)) (answers_of (store_after s (says l)) ls) (end_line (left_by (store_after s (says l)) ls).tables))
   where
     line : (x : Line) → answer_to s x ≡ answer_of s x
-    line (Does c) = unfold answer_of in (came-line s c (subst (λ (k : ℕ). 1 ≤ k) (sym (follows n small past).size) least) (follows n small past).ok)
-    line Bad = unfold answer_to answer_of in refl
+    line (Some c) = unfold answer_of in (came-line s c (subst (λ (k : ℕ). 1 ≤ k) (sym (follows n small past).size) least) (follows n small past).ok)
+    line None = unfold answer_to answer_of in refl
 
 -- ---- the trace
 

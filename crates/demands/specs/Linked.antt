@@ -1,6 +1,6 @@
 -- LINKED is given exactly where another piece links to the draft, which is where its entry of links into it is not 0.
 use Rattle.std.proofs.Math.Path.{◌≡◌, sym, ap}
-use Rattle.std.specs.Prelude.{refl, ◌↔◌, Bool, true, not, ℕ, ◌<◌, length, ltb}
+use Rattle.std.specs.Prelude.{refl, ◌↔◌, Bool, true, not, ℕ, ◌<◌, length, ltb, Err}
 use Rattle.std.proofs.Common.{◌∙◌, subst, ltb→lt, lt→ltb}
 use Rattle.std.proofs.Math.Bool.{false}
 use native.Mathlib.Omega.{arith}
@@ -14,7 +14,6 @@ use Rattle.rules.specs.Commands.{Verdict, accepted, refused, first_of, is_linked
 use Rattle.rules.specs.Calls.{answered, does, Areas, Outcome, Promise, ended, outcome_of, accepted_call, cleared, accepted_by, done_by, refused_call, refused_by, is_lent}
 use Rattle.rules.specs.declared.Refusal.TheVariants.{Linked}
 use Rattle.rules.specs.declared.Command.TheVariants.{Bin}
-use Rattle.rules.specs.declared.Answer.TheVariants.{Done, Refused}
 use Rattle.laws.specs.Below.{pick-false}
 use Rattle.laws.specs.Words.{neqb_of}
 use Rattle.laws.specs.Passes.{table_verdict}
@@ -22,6 +21,7 @@ use Rattle.laws.specs.Calls.{double_not, judge_through}
 use Rattle.laws.specs.Verdicts.{bare_verdict}
 use Rattle.into.specs.Into.{into_sound, linked_into}
 use Rattle.demands.specs.Sound.{OkStore, →sound_store}
+use Rattle.rules.specs.Replies.{done}
 
 -- of a draft LINKED is the only row that can apply
 draft_verdict : (s : Store) (p : ℕ) → Draft s.tables.base p → verdict s (Bin p) ≡ pick (is_linked s.tables.base p) (refused Linked) accepted
@@ -49,22 +49,22 @@ module _ {a : Areas} {o : Outcome} {p : ℕ} (promise : Promise (does (Bin p)) a
   entry_is = linked_into a.store.tables.base (into_sound ok.sized ok.sound) p d.below (unfold state in d.is)
 
   -- over the public promise: exactly where another piece links to it, as before
-  pub linked_told : (o.reply ≡ answered (Refused Linked)) ↔ T (is_linked a.store.tables.base p)
+  pub linked_told : (o.reply ≡ answered (Err Linked)) ↔ T (is_linked a.store.tables.base p)
   linked_told = go (is_linked a.store.tables.base p) refl
     where
-      go : (t : Bool) → is_linked a.store.tables.base p ≡ t → (o.reply ≡ answered (Refused Linked)) ↔ T t
+      go : (t : Bool) → is_linked a.store.tables.base p ≡ t → (o.reply ≡ answered (Err Linked)) ↔ T t
       go true e = (λ _. tt, λ _. reply_is true e ∙ (unfold ended refused_call refused_by in refl))
       go false e = (λ x. absurd (other x), λ t. absurd t)
         where
-          other : o.reply ≡ answered (Refused Linked) → ⊥
+          other : o.reply ≡ answered (Err Linked) → ⊥
           other x =
-              let y : answered (Done none (length (freed_by a.store.tables.base (Bin p)))) ≡ answered (Refused Linked) =
+              let y : answered (done none (length (freed_by a.store.tables.base (Bin p)))) ≡ answered (Err Linked) =
               sym (reply_is false e ∙ (unfold ended accepted_call cleared accepted_by done_by value_of in refl)) ∙ x in
               let z : ◌≡◌ {A = ℕ} 0 1 = cc y in
               omega arith
 
   -- and that is where the draft's entry is not 0
-  pub linked_entry : (o.reply ≡ answered (Refused Linked)) ↔ (0 < a.store.into ! p)
+  pub linked_entry : (o.reply ≡ answered (Err Linked)) ↔ (0 < a.store.into ! p)
   linked_entry = (
     λ x. ltb→lt 0 (a.store.into ! p) (subst T entry_is (linked_told.0 x)),
     λ h. linked_told.1 (subst T (sym entry_is) (lt→ltb 0 (a.store.into ! p) h)),

@@ -1,5 +1,5 @@
 -- What one call adds to the history of a piece: it begins it anew, or is counted.
-use Rattle.std.specs.Prelude.{◌≡◌, refl, Bool, true, false, not, List, [], ◌∷◌, ℕ, ◌+◌, ◌-◌}
+use Rattle.std.specs.Prelude.{◌≡◌, refl, Bool, true, false, not, List, [], ◌∷◌, ℕ, ◌+◌, ◌-◌, Ok, Err}
 use Rattle.std.proofs.Math.Path.{ap}
 use Rattle.std.proofs.Common.{◌∙◌, subst, ⊎_elim, arith, T_not, eqb→eq}
 use Rattle.std.proofs.Math.Dec.{T, not_T}
@@ -10,7 +10,6 @@ use Rattle.rules.specs.Calls.{Call, does, Reply, answered, saw, checked, Outcome
 use Rattle.rules.specs.History.{Event, event, is_accepted, commands, accepted_of, has_value, gives_out, is_start, starts, since, often, adds_by, takes_by, added_by, taken_by}
 use Rattle.rules.specs.declared.Command.{Command}
 use Rattle.rules.specs.declared.Command.TheVariants.{New, Set, Freeze, Acquire, Release, Bin, Look}
-use Rattle.rules.specs.declared.Answer.TheVariants.{Done, Refused}
 use Rattle.laws.specs.Tests.{and_right, or_cases}
 use Rattle.laws.specs.Below.{pick_true, pick-false}
 
@@ -54,8 +53,8 @@ module _ (i p : ℕ) (e : Event) (h : List Event) where
 -- what is not accepted has no value
 refused_value : (p : ℕ) (r : Reply) → T (not (is_accepted r)) → T (has_value p r) → ⊥
 unfolding is_accepted has_value
-refused_value p (answered (Done v f)) t u = t
-refused_value p (answered (Refused r)) t u = u
+refused_value p (answered (Ok d)) t u = t
+refused_value p (answered (Err r)) t u = u
 refused_value p (saw s) t u = u
 refused_value p (checked s) t u = u
 

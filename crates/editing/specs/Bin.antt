@@ -1,12 +1,14 @@
 -- Bin: draft P becomes free, on sound tables; the groups that its four places named may have fallen.
-use Rattle.std.specs.Prelude.{◌≡◌, refl, Bool, false, not, List, [], ◌∷◌, ℕ, ◌+◌, ◌*◌, ◌/◌, ◌≤◌, ◌<◌, eqb, length, set}
+use Rattle.std.specs.Prelude.{◌≡◌, refl, Bool, false, not, List, [], ◌∷◌, ℕ, zero, suc, ◌+◌, ◌-◌, ◌*◌, ◌/◌, ◌≤◌, ◌<◌, eqb, length, set, Err}
 use Rattle.std.proofs.Math.Path.{sym, ap, subst}
 use Rattle.std.proofs.Common.{◌∙◌, arith, lt→ltb, le-ltb}
 use Rattle.std.proofs.Math.Logic.{inl, inr, ⊎_elim}
 use Rattle.std.proofs.Math.Dec.{T, T_not, eqb→eq}
 use Rattle.std.proofs.Math.ListN.{get_or, length-set}
 use Rattle.std.proofs.Math.Seq.{ext_get_or}
-use Rattle.laws.specs.Numbers.{eq_or, lt_or, set_cases}
+use Rattle.std.specs.List.{slice_range}
+use Rattle.std.proofs.lemmas.List.Edits.{length-between, get_or-between}
+use Rattle.laws.specs.Numbers.{lt_or, set_cases}
 use Rattle.rules.specs.Tests.{pick}
 use Rattle.rules.specs.Limits.{none}
 use Rattle.rules.specs.Below.{table, sum}
@@ -17,7 +19,6 @@ use Rattle.rules.specs.Commands.{is_linked, free_all, with_states, with_links, e
 use Rattle.rules.specs.Calls.{answered, refused_by, accepted_by, done_by, Ready}
 use Rattle.rules.specs.declared.Refusal.TheVariants.{Linked}
 use Rattle.rules.specs.declared.Command.TheVariants.{Bin}
-use Rattle.rules.specs.declared.Answer.TheVariants.{Refused}
 use Rattle.laws.specs.ByTables.{DidTables, tables_effect}
 use Rattle.laws.specs.Below.{T_dec, pick_true, pick-false, get_or-table, length-table}
 use Rattle.laws.specs.Words.{eqb_of, neqb_of}
@@ -48,7 +49,7 @@ module _ {s : Tables} {p : ℕ} (ready : Ready s) (named : NamedPiece s.base.n s
       (neqb_of {m = s.base.states ! p} {n = 2} other)
 
   module _ {into : List ℕ} (x : IntoBase s.base into) where
-    pub bin_linked : {list : List ℕ} → (into ! p ≡ 0 → ⊥) → DidTables (Bin p) s list (tables_effect (answered (Refused Linked)) s list)
+    pub bin_linked : {list : List ℕ} → (into ! p ≡ 0 → ⊥) → DidTables (Bin p) s list (tables_effect (answered (Err Linked)) s list)
     unfolding refused_by
     bin_linked f = own_refused bin_names named.right Linked other
         (subst T (sym (linked_into s.base x p named.below bin_draft)) (lt→ltb 0 (into ! p) (omega (arith, f))), refl)
@@ -57,6 +58,12 @@ module _ {s : Tables} {p : ℕ} (ready : Ready s) (named : NamedPiece s.base.n s
     bin_alone e = linked_into s.base x p named.below bin_draft ∙ le-ltb 0 (into ! p) (omega arith)
 
 -- ---- the edited base
+
+-- each entry of a list is among it
+among_at : (xs : List ℕ) (k : ℕ) → k < length xs → Among (xs ! k) xs
+among_at [] k h = absurd (omega arith)
+among_at (x ∷ xs) zero h = first refl
+among_at (x ∷ xs) (suc k) h = later (among_at xs k (omega arith))
 
 -- a bin that is accepted, on sound tables, with room for the list
 pub record Binning (s : Tables) (list : List ℕ) (p : ℕ) : Type 0 where
@@ -156,15 +163,14 @@ module _ {s : Tables} {list : List ℕ} {p : ℕ} (g : Binning s list p) where
 
   -- what p named
   abbrev olds : List ℕ
-  olds = b.links ! (4 * p) ∷ b.links ! (4 * p + 1) ∷ b.links ! (4 * p + 2) ∷ b.links ! (4 * p + 3) ∷ []
+  olds = slice_range b.links (4 * p) (4 * p + 4)
 
   among_olds : (i : ℕ) → 4 * p ≤ i → i < 4 * p + 4 → Among (b.links ! i) olds
   among_olds i u v =
-      ⊎_elim (λ x. first (ap (λ (y : ℕ). b.links ! y) x))
-      (λ d₀. ⊎_elim (λ x. later (first (ap (λ (y : ℕ). b.links ! y) x)))
-      (λ d₁. ⊎_elim (λ x. later (later (first (ap (λ (y : ℕ). b.links ! y) x))))
-      (λ d₂. let x : i ≡ 4 * p + 3 = omega arith in later (later (later (first (ap (λ (y : ℕ). b.links ! y) x)))))
-      (eq_or i (4 * p + 2))) (eq_or i (4 * p + 1))) (eq_or i (4 * p))
+      let e : 4 * p + (i - 4 * p) ≡ i = omega arith in
+      let inside : i - 4 * p < length olds = omega (arith, length-between b.links (4 * p) (4 * p + 4) (omega (arith, g.ready.sized.base.links, g.named.below))) in
+      subst (λ (y : ℕ). Among y olds) (get_or-between b.links (4 * p) (4 * p + 4) (i - 4 * p) 0 (omega arith) ∙ ap (λ (y : ℕ). b.links ! y) e)
+      (among_at olds (i - 4 * p) inside)
 
   module _ {links₁ counts₁ : List ℕ} (a : Emptied b.n b.links s.leaders s.counts p 4 links₁ counts₁) where
     abbrev e₁ : Base

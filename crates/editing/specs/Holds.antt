@@ -1,5 +1,5 @@
 -- One hold more or less on p: acquire and release, on sound tables.
-use Rattle.std.specs.Prelude.{◌≡◌, ℕ, ◌+◌, ◌-◌, ◌≤◌, ◌<◌, length, set}
+use Rattle.std.specs.Prelude.{◌≡◌, ℕ, ◌+◌, ◌-◌, ◌≤◌, ◌<◌, length, set, Err}
 use Rattle.std.proofs.Math.Path.{refl, sym, subst}
 use Rattle.std.proofs.Common.{◌∙◌, arith, le→leb, get_or-set_other}
 use mathlib.Core.List.{List, [], ◌∷◌}
@@ -14,8 +14,6 @@ use Rattle.rules.specs.Commands.{accepted, table_refusals, at_limit, not_held, e
 use Rattle.rules.specs.Calls.{answered, refused_by, accepted_by, done_by, listing, fresh, Ready}
 use Rattle.rules.specs.declared.Refusal.TheVariants.{Limit, NotHeld}
 use Rattle.rules.specs.declared.Command.TheVariants.{Acquire, Release}
-use Rattle.rules.specs.declared.Answer.{Answer}
-use Rattle.rules.specs.declared.Answer.TheVariants.{Refused}
 use Rattle.laws.specs.ByTables.{DidTables, tables_effect}
 use Rattle.laws.specs.Tests.{and_both, and_right}
 use Rattle.laws.specs.Words.{eqb_of, neqb_of, →is_frozen}
@@ -33,6 +31,7 @@ use Rattle.falling.specs.Queue.{lengths_kept}
 use Rattle.falling.specs.Fall.{Begin, OthersCounted}
 use Rattle.editing.specs.Started.{lengths_of, exact_kept, Edited}
 use Rattle.editing.specs.Names.{acquire_names, release_names, names_pass, own_refused}
+use Rattle.rules.specs.Replies.{Answer}
 
 -- ---- the leader of a frozen piece, and its count
 
@@ -87,7 +86,7 @@ module _ {s : Tables} {p : ℕ} (o : Ready s) (named : NamedPiece s.base.n s.bas
 
   -- ---- acquire
 
-  pub acquire_limit : 1000 ≤ b.holds ! p → DidTables (Acquire p 0) s [] (tables_effect (answered (Refused Limit)) s [])
+  pub acquire_limit : 1000 ≤ b.holds ! p → DidTables (Acquire p 0) s [] (tables_effect (answered (Err Limit)) s [])
   unfolding at_limit holds_of refused_by
   acquire_limit h =
       own_refused acquire_names named.right Limit other
@@ -134,7 +133,7 @@ module _ {s : Tables} {p : ℕ} (o : Ready s) (named : NamedPiece s.base.n s.bas
 -- ---- release
 
 module _ {s : Tables} {list : List ℕ} {p : ℕ} (named : NamedPiece s.base.n s.base.states p) (other : s.base.states ! p ≡ 1 → ⊥) where
-  pub release_held : s.base.holds ! p ≡ 0 → DidTables (Release p 0) s list (tables_effect (answered (Refused NotHeld)) s list)
+  pub release_held : s.base.holds ! p ≡ 0 → DidTables (Release p 0) s list (tables_effect (answered (Err NotHeld)) s list)
   unfolding not_held holds_of refused_by
   release_held h = own_refused release_names named.right NotHeld other (eqb_of {m = s.base.holds ! p} {n = 0} h, refl)
 

@@ -1,13 +1,13 @@
 -- From an edited base to its freeing: the groups that may have fallen are put into the queue, and the letting go leaves what the rules say.
-use Rattle.std.specs.Prelude.{◌≡◌, refl, true, List, [], ◌∷◌, ℕ, ◌≤◌, ◌<◌, length}
-use Rattle.std.proofs.Common.{sym, ◌∙◌, subst, arith}
+use Rattle.std.specs.Prelude.{◌≡◌, true, List, [], ◌∷◌, ℕ, suc, ◌+◌, ◌≤◌, ◌<◌, length, drop}
+use Rattle.std.proofs.Common.{sym, ◌∙◌, subst, add-one, arith, drop-cons}
+use Rattle.std.proofs.lemmas.List.{drop_all}
 use Rattle.rules.specs.Limits.{none}
 use Rattle.rules.specs.Tables.{Base, Tables, state, link_at}
 use Rattle.rules.specs.Words.{Frozen, Well}
 use Rattle.rules.specs.Commands.{edit, settles, freed_by}
 use Rattle.rules.specs.Calls.{answered, accepted_by, Ready}
 use Rattle.rules.specs.declared.Command.{Command}
-use Rattle.rules.specs.declared.Answer.TheVariants.{Done}
 use Rattle.laws.specs.Passes.{Passes}
 use Rattle.rules.specs.Lists.{◌!◌}
 use Rattle.tallies.specs.Exact.{Exact}
@@ -18,6 +18,7 @@ use Rattle.falling.specs.Steps.{of_capacity, Going}
 use Rattle.falling.specs.Fall.{Begin, OthersCounted, Falling, fall_start, Tipping, Tipped, fallen}
 use Rattle.falling.specs.Freed.{Freed, none_freed}
 use Rattle.editing.specs.Verdicts.{Worked, freed_from, settled_did}
+use Rattle.rules.specs.Replies.{done}
 
 -- ---- sound tables
 
@@ -72,30 +73,47 @@ pub record Tumbled (n : ℕ) (states leaders counts list : List ℕ) (tail : ℕ
   pub grows : tail ≤ tail'
   pub rest : (i : ℕ) → tail' ≤ i → list' ! i ≡ list ! i
 
-module _ {n : ℕ} {states leaders counts list : List ℕ} {tail : ℕ} where
-  tumbled_none : Tumbled n states leaders counts list tail [] states list tail
-  tumbled_none = record { falling = λ e k f. f; grows = omega arith; rest = λ i _. refl }
+-- the first k of the pieces xs are put into the queue
+pub record Tumbling (n : ℕ) (states leaders counts list xs : List ℕ) (k : ℕ) (states' list' : List ℕ) (tail' : ℕ) : Type 0 where
+  pub falling : (began : Base) → Known (of_capacity n began) leaders → Falling (of_capacity n began) leaders states counts list 0 xs
+      → Falling (of_capacity n began) leaders states' counts list' tail' (drop k xs)
+  pub rest : (i : ℕ) → tail' ≤ i → list' ! i ≡ list ! i
 
-  module _ {t : ℕ} {xs : List ℕ} where
-    pub tippings_first : Tippings n states leaders counts list tail (t ∷ xs) → Tipping n states leaders counts list t tail
-    tippings_first z = record { began = z.began; xs = xs; known = z.known; falling = z.falling }
+module _ {n : ℕ} {states leaders counts list xs : List ℕ} {k : ℕ} {states₁ list₁ : List ℕ} {tail₁ : ℕ}
+    (a : Tumbling n states leaders counts list xs k states₁ list₁ tail₁) where
+  module _ (more : k < length xs) where
+    -- the next of them may be put there
+    pub tumbling_first : Tippings n states leaders counts list 0 xs → Tipping n states₁ leaders counts list₁ (xs ! k) tail₁
+    tumbling_first z = record {
+      began = z.began;
+      xs = drop (suc k) xs;
+      known = z.known;
+      falling = rw (drop-cons xs k 0 more) at a.falling z.began z.known z.falling;
+    }
 
-    module _ {states₁ list₁ : List ℕ} {tail₁ : ℕ} (p : Tipped n states leaders counts list t tail states₁ list₁ tail₁) where
-      pub tippings_next : Tippings n states leaders counts list tail (t ∷ xs) → Tippings n states₁ leaders counts list₁ tail₁ xs
-      tippings_next z = record { began = z.began; known = z.known; falling = p.falling z.began z.known z.falling }
+    pub tumbling_next : {states₂ list₂ : List ℕ} {tail₂ : ℕ} → Tipped n states₁ leaders counts list₁ (xs ! k) tail₁ states₂ list₂ tail₂
+        → Tumbling n states leaders counts list xs (k + 1) states₂ list₂ tail₂
+    tumbling_next p = record {
+      falling = λ e h f. rw add-one (p.falling e h (rw (drop-cons xs k 0 more) at a.falling e h f));
+      rest = λ i u. p.rest i u ∙ a.rest i (omega (arith, p.grows));
+    }
 
-      pub tumbled_next : {states' list' : List ℕ} {tail' : ℕ} → Tumbled n states₁ leaders counts list₁ tail₁ xs states' list' tail'
-          → Tumbled n states leaders counts list tail (t ∷ xs) states' list' tail'
-      tumbled_next q = record {
-        falling = λ e k f. q.falling e k (p.falling e k f);
-        grows = omega (arith, p.grows, q.grows);
-        rest = λ i u. q.rest i u ∙ p.rest i (omega (arith, q.grows));
-      }
+  -- all are
+  pub tumbled_all : length xs ≤ k → Tumbled n states leaders counts list 0 xs states₁ list₁ tail₁
+  tumbled_all end = record {
+    falling = λ e h f. rw (drop_all k xs end) at a.falling e h f;
+    grows = omega arith;
+    rest = a.rest;
+  }
 
 -- one group may have
-pub tumbled_one : {n : ℕ} {states leaders counts list states' list' : List ℕ} {tail t tail' : ℕ}
-    → Tipped n states leaders counts list t tail states' list' tail' → Tumbled n states leaders counts list tail (t ∷ []) states' list' tail'
-tumbled_one p = tumbled_next p tumbled_none
+module _ {n : ℕ} {states leaders counts list : List ℕ} {tail t : ℕ} where
+  pub tippings_first : {xs : List ℕ} → Tippings n states leaders counts list tail (t ∷ xs) → Tipping n states leaders counts list t tail
+  tippings_first {xs} z = record { began = z.began; xs = xs; known = z.known; falling = z.falling }
+
+  pub tumbled_one : {states' list' : List ℕ} {tail' : ℕ} → Tipped n states leaders counts list t tail states' list' tail'
+      → Tumbled n states leaders counts list tail (t ∷ []) states' list' tail'
+  tumbled_one p = record { falling = λ e k f. p.falling e k f; grows = p.grows; rest = p.rest }
 
 -- ---- the edited base
 
@@ -103,7 +121,7 @@ tumbled_one p = tumbled_next p tumbled_none
 pub record Edited (c : Command) (s : Tables) (list : List ℕ) (e : Base) (counts xs : List ℕ) : Type 0 where
   pub passes : Passes s.base c
   pub on : settles c ≡ true
-  pub says : accepted_by s c ≡ answered (Done none (length (freed_by s.base c)))
+  pub says : accepted_by s c ≡ answered (done none (length (freed_by s.base c)))
   pub is : e ≡ edit s.base c
   pub holds_n : length e.holds ≡ e.n
   pub begin : Begin e s.leaders counts list

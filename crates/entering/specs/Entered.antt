@@ -1,34 +1,45 @@
 -- How a call begins and ends: the sizes, then the soundness; on the way out work is cleared, unless a size is wrong.
-use Rattle.std.specs.Prelude.{◌≡◌, Bool, not, List, ◌++◌, ℕ, ◌*◌, ◌≤◌, T, length, replicate}
-use Rattle.std.proofs.Common.{ap, ◌∙◌, subst, arith, le→leb}
+use Rattle.std.specs.Prelude.{◌≡◌, ◌⊎◌, Bool, not, List, ◌++◌, ℕ, ◌*◌, ◌≤◌, T, length, replicate, Result, Ok, Err}
+use Rattle.std.proofs.Common.{ap, ◌∙◌, subst, arith}
 use Rattle.std.proofs.Math.Dec.{leb, leb→le}
 use Rattle.rules.specs.Tests.{◌&◌}
 use Rattle.rules.specs.Tables.{Store, store_by, is_sound_store}
 use Rattle.rules.specs.Words.{SizedStore}
 use Rattle.rules.specs.Calls.{is_sized_store, clear, Ready, ReadyStore}
-use Rattle.laws.specs.Tests.{and_both, and_left, and_right}
-use Rattle.laws.specs.Calls.{sized_store→, →sized_store, ready_tables}
+use Rattle.laws.specs.Tests.{and_left, and_right}
+use Rattle.laws.specs.Calls.{sized_store→, ready_tables}
 use Rattle.tallies.specs.Adding.{LaterSame}
 use Rattle.into.specs.Stores.{IntoBase, into_ready, ready_by}
 use Rattle.demands.specs.Sound.{sound_store→}
-use Rattle.entering.specs.declared.Entry.{Entry}
-use Rattle.entering.specs.declared.Entry.TheVariants.{Short, Flawed, Sound}
+use Rattle.rules.specs.declared.Refusal.{Refusal}
+use Rattle.rules.specs.declared.Refusal.TheVariants.{Size, Unsound}
 
 -- every size is right, with `room` entries of list
 unfoldable pub fits : Store → ℕ → List ℕ → Bool
 fits s room work = is_sized_store s & leb s.tables.base.n room & leb (8 * s.tables.base.n) (length work)
 
-abbrev pub Began : Store → ℕ → List ℕ → Entry → List ℕ → Type 0
-Began s room work Short work' = T (not (fits s room work)) × (work' ≡ work)
-Began s room work Flawed work' = T (fits s room work) × T (not (is_sound_store s)) × LaterSame (8 * s.tables.base.n) work work'
-Began s room work Sound work' = T (fits s room work) × T (is_sound_store s) × LaterSame (8 * s.tables.base.n) work work'
+-- a size is wrong, and work is unchanged
+abbrev pub Short : Store → ℕ → List ℕ → List ℕ → Type 0
+Short s room work work' = T (not (fits s room work)) × (work' ≡ work)
 
-pub record Entered (s : Store) (room : ℕ) (work : List ℕ) (r : Entry) (work' : List ℕ) : Type 0 where
+-- the store is not sound, and work is cleared
+abbrev pub Flawed : Store → ℕ → List ℕ → List ℕ → Type 0
+Flawed s room work work' = T (fits s room work) × T (not (is_sound_store s)) × (work' ≡ clear s.tables.base.n work)
+
+-- the store is sound, and the first 8N entries of work may hold anything
+abbrev pub Sound : Store → ℕ → List ℕ → List ℕ → Type 0
+Sound s room work work' = T (fits s room work) × T (is_sound_store s) × LaterSame (8 * s.tables.base.n) work work'
+
+abbrev pub Began : Store → ℕ → List ℕ → Result (Unit {0}) Refusal → List ℕ → Type 0
+Began s room work (Ok _) work' = Sound s room work work'
+Began s room work (Err q) work' = ((q ≡ Size) × Short s room work work') ⊎ ((q ≡ Unsound) × Flawed s room work work')
+
+pub record Entered (s : Store) (room : ℕ) (work : List ℕ) (r : Result (Unit {0}) Refusal) (work' : List ℕ) : Type 0 where
   pub began : Began s room work r work'
 
 -- what it tells, by its case
-pub began_by : {s : Store} {room : ℕ} {work work' : List ℕ} {r q : Entry} → Entered s room work r work' → r ≡ q → Began s room work q work'
-began_by {s} {room} {work} {work'} x is = (subst (λ (y : Entry). Entered s room work y work') is x).began
+pub began_by : {s : Store} {room : ℕ} {work work' : List ℕ} {r q : Result (Unit {0}) Refusal} → Entered s room work r work' → r ≡ q → Began s room work q work'
+began_by {s} {room} {work} {work'} x is = (subst (λ (y : Result (Unit {0}) Refusal). Entered s room work y work') is x).began
 
 -- ---- sizes
 
@@ -53,16 +64,13 @@ module _ {s : Store} {room : ℕ} {work : List ℕ} where
         worked = leb→le (8 * n) (length work) (and_right (leb n room) _ r);
       }
 
-  pub →fits : Fitted s room work → T (fits s room work)
-  unfolding fits
-  →fits z =
-      let n = s.tables.base.n in
-      and_both (is_sized_store s) _ (→sized_store s z.least z.sized)
-      (and_both (leb n room) _ (le→leb n room z.listed) (le→leb (8 * n) (length work) z.worked))
+-- what `leave` asks
+abbrev pub Leaving : ℕ → List ℕ → Type 0
+Leaving n work = (n ≤ 1024) × (8 * n ≤ length work)
 
 -- ---- what the inner door asks: a sound store, with N entries of list or with 8N of work
 
-module _ {s : Store} {room : ℕ} {work work' : List ℕ} {r : Entry} (x : Entered s room work r work') (is : r ≡ Sound) where
+module _ {s : Store} {room : ℕ} {work work' : List ℕ} {r : Result (Unit {0}) Refusal} (x : Entered s room work r work') (is : r ≡ Ok tt) where
   pub entered_ready : ReadyStore s
   entered_ready =
       let b = began_by x is in
@@ -90,18 +98,12 @@ module _ {s : Store} {room : ℕ} {work work' : List ℕ} {r : Entry} (x : Enter
   pub entered_by_listed : ReadyStore (store_by s.tables s.register) × (s.tables.base.n ≤ room)
   entered_by_listed = (entered_by, entered-listed.1)
 
--- ---- the way out: what the walks left in work is cleared away
+  -- on the way out what the walks left in work is cleared away
+  pub sound_leaving : Leaving s.tables.base.n work'
+  sound_leaving = let b = entered_wide in (b.0.sized.tables.base.most, b.1)
 
--- what `leave` asks
-abbrev pub Leaving : ℕ → List ℕ → Type 0
-Leaving n work = (n ≤ 1024) × (8 * n ≤ length work)
-
-module _ {s : Store} {room : ℕ} {work work' : List ℕ} {r : Entry} (x : Entered s room work r work') where
-  pub flawed_leaving : r ≡ Flawed → Leaving s.tables.base.n work'
-  flawed_leaving is = let b = began_by x is in let z = fits→ b.0 in (z.sized.tables.base.most, omega (arith, z.worked, b.2.size))
-
-  pub sound_leaving : r ≡ Sound → Leaving s.tables.base.n work'
-  sound_leaving is = let b = entered_wide x is in (b.0.sized.tables.base.most, b.1)
+-- what the inner door and the way out ask, from how a call began
+pub ruleset entered_laws = (entered_wide, entered_tables, entered_tables_listed, entered_by_listed, sound_leaving)
 
 -- whatever they left there
 pub left_clear : (n : ℕ) {work work' work₁ : List ℕ} → LaterSame (8 * n) work work' → work₁ ≡ clear n work' → work₁ ≡ clear n work

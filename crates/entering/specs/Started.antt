@@ -1,34 +1,33 @@
 -- From start's test of the sizes to its promise: areas of the right sizes are filled, others are left.
-use Rattle.std.specs.Prelude.{◌≡◌, refl, Bool, true, false, not, List, [], ◌++◌, ℕ, ◌*◌, length, drop, replicate}
-use Rattle.std.proofs.Common.{sym, ap, ◌∙◌, append-nil, arith, drop_of_length-le}
+use Rattle.std.specs.Prelude.{◌≡◌, refl, Bool, true, false, not, List, [], ℕ, length, replicate, Err}
+use Rattle.std.proofs.Common.{sym, ap, ◌∙◌}
 use Rattle.rules.specs.Tests.{◌&◌}
 use Rattle.rules.specs.Limits.{none, entries}
 use Rattle.rules.specs.Tables.{Tables, Store, empty_tables, empty}
 use Rattle.rules.specs.Words.{Sized, SizedStore}
 use Rattle.rules.specs.Calls.{start, areas_of, answered, outcome, fresh, Promise, takes_list, takes_work, is_sized_store, is_lent, later_refusals, refused_call, accepted_call, cleared}
 use Rattle.rules.specs.declared.Refusal.TheVariants.{Size}
-use Rattle.rules.specs.declared.Answer.{Answer}
-use Rattle.rules.specs.declared.Answer.TheVariants.{Refused}
 use Rattle.laws.specs.Calls.{accepted_outcome, short}
 use Rattle.entering.specs.Judged.{denied, granted, sizes}
 use Rattle.entering.specs.Calls.{lent_accepted}
+use Rattle.rules.specs.Replies.{Answer}
 
--- the first k entries are v
-abbrev Fills : ℕ → ℕ → List ℕ → List ℕ → Type 0
-Fills k v before after = after ≡ replicate k v ++ drop k before
+-- every entry is v
+abbrev Fills : ℕ → List ℕ → List ℕ → Type 0
+Fills v before after = after ≡ replicate (length before) v
 
 -- what start fills, with what empty tables have
 pub record Filled (t t' : Tables) : Type 0 where
   pub n : t'.base.n ≡ t.base.n
-  pub states : Fills t.base.n 0 t.base.states t'.base.states
-  pub links : Fills (4 * t.base.n) none t.base.links t'.base.links
-  pub leaders : Fills t.base.n none t.leaders t'.leaders
-  pub holds : Fills t.base.n 0 t.base.holds t'.base.holds
-  pub counts : Fills t.base.n 0 t.counts t'.counts
+  pub states : Fills 0 t.base.states t'.base.states
+  pub links : Fills none t.base.links t'.base.links
+  pub leaders : Fills none t.leaders t'.leaders
+  pub holds : Fills 0 t.base.holds t'.base.holds
+  pub counts : Fills 0 t.counts t'.counts
 
--- an area that is filled to its length
-full : (v : ℕ) (l : List ℕ) {k : ℕ} {x : List ℕ} → length l ≡ k → Fills k v l x → x ≡ replicate k v
-full v l {k} h f = f ∙ ap (λ (t : List ℕ). replicate k v ++ t) (drop_of_length-le l {i = k} (omega arith)) ∙ append-nil (replicate k v)
+-- an area of a length, filled
+full : (v : ℕ) (l : List ℕ) {k : ℕ} {x : List ℕ} → length l ≡ k → Fills v l x → x ≡ replicate k v
+full v l h f = f ∙ ap (λ (m : ℕ). replicate m v) h
 
 filled : (t t' : Tables) → Sized t → Filled t t' → t' ≡ empty_tables t.base.n
 unfolding empty_tables
@@ -44,7 +43,7 @@ filled t t' z f = λ i. record {
 }
 
 -- with no line of the register used, and nothing named
-emptied : {s s' : Store} → SizedStore s → Filled s.tables s'.tables → s'.register ≡ replicate entries 0 → Fills s.tables.base.n 0 s.into s'.into
+emptied : {s s' : Store} → SizedStore s → Filled s.tables s'.tables → s'.register ≡ replicate entries 0 → Fills 0 s.into s'.into
     → s' ≡ empty s.tables.base.n
 unfolding empty
 emptied {s} {s'} z f e g = λ i. record {
@@ -62,12 +61,12 @@ start_lent s = go (is_sized_store s)
     go false = refl
 
 pub start_short : {s : Store} {r : Bool} → not r ≡ true → r ≡ is_sized_store s
-    → Promise start (areas_of s [] []) (outcome (answered (Refused Size)) (areas_of s [] []))
+    → Promise start (areas_of s [] []) (outcome (answered (Err Size)) (areas_of s [] []))
 unfolding refused_call
 start_short {s} e f = short (areas_of s [] []) start (rw start_lent (denied e f))
 
 pub start_done : {s s' : Store} {r : Bool} {a : Answer} → not r ≡ false → r ≡ is_sized_store s → a ≡ fresh → Filled s.tables s'.tables
-    → s'.register ≡ replicate entries 0 → Fills s.tables.base.n 0 s.into s'.into → Promise start (areas_of s [] []) (outcome (answered a) (areas_of s' [] []))
+    → s'.register ≡ replicate entries 0 → Fills 0 s.into s'.into → Promise start (areas_of s [] []) (outcome (answered a) (areas_of s' [] []))
 unfolding accepted_call cleared takes_work
 start_done {s} {s'} e f is at none named = record {
   exact =

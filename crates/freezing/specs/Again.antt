@@ -1,5 +1,5 @@
 -- Freeze and its refusals: of a piece that is no draft, freeze does what acquire does.
-use Rattle.std.specs.Prelude.{◌≡◌, Bool, true, false, not, ℕ, ◌<◌, T, eqb, leb}
+use Rattle.std.specs.Prelude.{◌≡◌, Bool, true, false, not, ℕ, ◌<◌, T, eqb, leb, Err}
 use Rattle.std.proofs.Math.Path.{refl, ap}
 use Rattle.std.proofs.Common.{sym, ◌∙◌, subst, arith}
 use mathlib.Core.List.{List, [], ◌∷◌}
@@ -14,8 +14,6 @@ use Rattle.rules.specs.declared.Refusal.{Refusal}
 use Rattle.rules.specs.declared.Refusal.TheVariants.{Number, Free, State, Limit, Register}
 use Rattle.rules.specs.declared.Command.{Command}
 use Rattle.rules.specs.declared.Command.TheVariants.{Freeze, Acquire}
-use Rattle.rules.specs.declared.Answer.{Answer}
-use Rattle.rules.specs.declared.Answer.TheVariants.{Refused}
 use Rattle.rules.specs.Lists.{◌!◌}
 use Rattle.laws.specs.ByTables.{DidTables, tables_effect}
 use Rattle.laws.specs.Below.{pick_true}
@@ -33,6 +31,7 @@ use Rattle.naming.specs.Told.{NamedPiece}
 use Rattle.naming.specs.Names.{Names, names_passed}
 use Rattle.holding.specs.Acquired.{none_said, room_said}
 use Rattle.freezing.specs.Twice.{first_itself, draft_itself}
+use Rattle.rules.specs.Replies.{Answer}
 
 and_off : (x y : Bool) → T (not x) → T (not (x & y))
 and_off true y t = absurd t
@@ -139,7 +138,7 @@ module _ {n p seat : ℕ} {states links leaders holds counts register : List ℕ
   -- a draft, and no line is free
   pub freeze_crowded : {r : Bool} → states ! p ≡ 1 → not r ≡ true → r ≡ not (eqb (held_by register seat p) 0 & is_full register)
       → Did (Freeze p seat) (store_by (tables_of n states links leaders holds counts) register) []
-      (effect (answered (Refused Register)) (store_by (tables_of n states links leaders holds counts) register) [])
+      (effect (answered (Err Register)) (store_by (tables_of n states links leaders holds counts) register) [])
   unfolding no_line
   freeze_crowded {r} is none said =
       refused_line freeze_adds (draft_itself ready is) sits (draft_accepted (ready_tables ready) named is seat) (none_said r (no_line register seat p) none said)

@@ -1,6 +1,9 @@
 -- The drafts that p reaches, assembled: they stand in the queue, each once, with their leaders found.
-use Rattle.std.specs.Prelude.{◌≡◌, List, ℕ, ◌+◌, ◌-◌, ◌*◌, ◌≤◌, ◌<◌, length}
-use Rattle.std.proofs.Common.{sym, ap, ◌∙◌, subst, inl, inr, ⊎_elim, arith, get_or-drop}
+use Rattle.std.specs.Prelude.{◌≡◌, List, ℕ, ◌*◌, ◌≤◌, ◌<◌, length, take}
+use Rattle.std.specs.List.{slice_range}
+use Rattle.std.proofs.Common.{sym, ap, ◌∙◌, subst, inl, inr, ⊎_elim, arith}
+use Rattle.std.proofs.lemmas.List.{get_or-take, length-take-le}
+use Rattle.std.proofs.lemmas.List.Edits.{get_or-between}
 use Rattle.rules.specs.Lists.{◌!◌}
 use Rattle.laws.specs.Numbers.{eq_or}
 use Rattle.paths.specs.Ground.{link_in, Lead}
@@ -10,48 +13,55 @@ use Rattle.recounting.specs.Standing.{Standing}
 use Rattle.recounting.specs.Taken.{Queued}
 use Rattle.freezing.specs.Found.{Found}
 
-pub record Assembled (n : ℕ) (states links leaders : List ℕ) (p : ℕ) (leaders' work : List ℕ) (size : ℕ) : Type 0 where
-  pub all : (q : ℕ) → q < n → ReachedFrom n states links 1 p q → Standing n work size q
-  pub «only» : (q : ℕ) → q < n → Standing n work size q → ReachedFrom n states links 1 p q
-  pub leads : (q : ℕ) → q < n → ReachedFrom n states links 1 p q → Lead n (link_in links) q (work ! (2 * n + q))
-  pub left : (q : ℕ) → q < n → (Standing n work size q → ⊥) → leaders' ! q ≡ leaders ! q
+pub record Assembled (n : ℕ) (states links leaders : List ℕ) (p : ℕ) (leaders' found queue : List ℕ) : Type 0 where
+  pub all : (q : ℕ) → q < n → ReachedFrom n states links 1 p q → Standing queue q
+  pub «only» : (q : ℕ) → q < n → Standing queue q → ReachedFrom n states links 1 p q
+  pub leads : (q : ℕ) → q < n → ReachedFrom n states links 1 p q → Lead n (link_in links) q (found ! q)
+  pub left : (q : ℕ) → q < n → (Standing queue q → ⊥) → leaders' ! q ≡ leaders ! q
   pub leaders_n : length leaders' ≡ length leaders
-  pub queued : Queued n work size
+  pub queued : Queued n queue
 
-module _ {n : ℕ} {states links leaders work : List ℕ} {p : ℕ} {leaders₁ work₁ : List ℕ} {size : ℕ}
-    (g : Gathered n states links leaders work p leaders₁ work₁ size) {work₂ : List ℕ} (f : Found n states links work₁ p work₂) where
-  -- the queue is as it was
-  pub queue_at : (i : ℕ) → 6 * n ≤ i → work₂ ! i ≡ work₁ ! i
-  queue_at i h =
-      let e : 6 * n + (i - 6 * n) ≡ i = omega arith in
-      ap (λ (x : ℕ). work₂ ! x) (sym e) ∙ sym (get_or-drop (6 * n) work₂ (i - 6 * n) 0) ∙ ap (λ (l : List ℕ). l ! (i - 6 * n)) f.later
-      ∙ get_or-drop (6 * n) work₁ (i - 6 * n) 0 ∙ ap (λ (x : ℕ). work₁ ! x) e
+-- the third region, in which the leaders stand
+abbrev pub third : ℕ → List ℕ → List ℕ
+third n regions = slice_range regions (2 * n) (3 * n)
 
-  pub assembled : Assembled n states links leaders p leaders₁ work₂ size
-  assembled = record {
-    all = λ q h r. let w = g.all q h r.0 r.1 in record { at = w.0; below = w.1; is = queue_at (6 * n + w.0) (omega arith) ∙ w.2 };
-    «only» = λ q h s. stood q s.at s.below (sym (queue_at (6 * n + s.at) (omega arith)) ∙ s.is);
-    leads = f.leads;
+module _ {n : ℕ} {states links leaders entries : List ℕ} {p : ℕ} {leaders₁ entries₁ : List ℕ} {size : ℕ}
+    (g : Gathered n states links leaders entries p leaders₁ entries₁ size) (wide : n ≤ length entries) where
+  front_n : length (take size entries₁) ≡ size
+  front_n = length-take-le size entries₁ (omega (arith, g.entries_n, g.most))
+
+  front_at : (j : ℕ) → j < size → take size entries₁ ! j ≡ entries₁ ! j
+  front_at j h = get_or-take size entries₁ j 0 h
+
+  pub gathered_each : (j : ℕ) → j < length (take size entries₁) → (take size entries₁ ! j < n) × ReachedFrom n states links 1 p (take size entries₁ ! j)
+  gathered_each j h =
+      let l : j < size = omega (arith, front_n) in
+      let w = g.each j l in
+      subst (λ (x : ℕ). (x < n) × ReachedFrom n states links 1 p x) (sym (front_at j l)) (w.0, (w.1, w.2))
+
+  pub gathered_all : (q : ℕ) → q < n → ReachedFrom n states links 1 p q → Standing (take size entries₁) q
+  gathered_all q h r = let w = g.all q h r.0 r.1 in record { at = w.0; below = omega (arith, w.1, front_n); is = front_at w.0 w.1 ∙ w.2 }
+
+  -- where p stands there alone, it reaches no other draft
+  pub gathered_alone : length (take size entries₁) ≡ 1 → (q : ℕ) → q < n → ReachedFrom n states links 1 p q → q ≡ p
+  gathered_alone e q h r =
+      let w = g.all q h r.0 r.1 in
+      let z : w.0 ≡ 0 = (let l = w.1 in omega (arith, front_n)) in
+      sym w.2 ∙ ap (λ (x : ℕ). entries₁ ! x) z ∙ g.first
+
+  pub assembled : {regions regions' : List ℕ} → Found n states links regions p regions' → Assembled n states links leaders p leaders₁ (third n regions') (take size entries₁)
+  assembled {regions} {regions'} f = record {
+    all = gathered_all;
+    «only» = λ q h s. subst (ReachedFrom n states links 1 p) s.is (gathered_each s.at s.below).1;
+    leads = λ q h r. subst (Lead n (link_in links) q) (sym (get_or-between regions' (2 * n) (3 * n) q 0 (omega arith))) (f.leads q h r);
     left = λ q h d. g.left q (⊎_elim
-        (λ e. inr (λ r. d (let w = g.all q h e r in record { at = w.0; below = w.1; is = queue_at (6 * n + w.0) (omega arith) ∙ w.2 })))
+        (λ e. inr (λ r. d (gathered_all q h (e, r))))
         (λ e. inl e)
         (eq_or (states ! q) 1));
     leaders_n = g.leaders_n;
     queued = record {
-      each = λ j h. subst (λ (x : ℕ). x < n) (sym (queue_at (6 * n + j) (omega arith))) (g.each j h).0;
-      apart = λ i j h l e. g.apart i j h l (sym (queue_at (6 * n + i) (omega arith)) ∙ e ∙ queue_at (6 * n + j) (omega arith));
-      most = g.most;
+      each = λ j h. (gathered_each j h).0;
+      apart = λ i j h l e. let k : j < size = omega (arith, front_n) in g.apart i j h k (sym (front_at i (omega arith)) ∙ e ∙ front_at j k);
+      most = omega (arith, front_n, g.most);
     };
   }
-    where
-      stood : (q j : ℕ) → j < size → work₁ ! (6 * n + j) ≡ q → ReachedFrom n states links 1 p q
-      stood q j h e = subst (ReachedFrom n states links 1 p) e ((g.each j h).1, (g.each j h).2)
-
--- where p stands there alone, it reaches no other draft
-pub gathered_alone : {n : ℕ} {states links leaders work : List ℕ} {p : ℕ} {leaders₁ work₁ : List ℕ} {size : ℕ} → Gathered n states links leaders work p leaders₁ work₁ size
-    → size ≡ 1 → (q : ℕ) → q < n → ReachedFrom n states links 1 p q → q ≡ p
-gathered_alone {n} {work₁ = work₁} g e q h r =
-    let w = g.all q h r.0 r.1 in
-    let z : w.0 ≡ 0 = (let l = w.1 in omega arith) in
-    let i : 6 * n + w.0 ≡ 6 * n = omega arith in
-    sym w.2 ∙ ap (λ (x : ℕ). work₁ ! x) i ∙ g.first

@@ -49,14 +49,14 @@ module _ {s : Tables} {work : List ℕ} {p : ℕ} (d : Freezable s work p) where
   unfolding b' state
   good' = freeze_first_good b d.ready.sized.base good p d.below d.is
 
-  module _ {leaders₁ work' : List ℕ} {size : ℕ} {states' leaders' : List ℕ}
-      (m : Assembled s.base.n s.base.states s.base.links s.leaders p leaders₁ work' size)
-      (t : MadeFrozen s.base.n s.base.states leaders₁ work' size states' leaders') where
-    finds : (q : ℕ) → q < n → T (is_draft b q & reaches b p q) → Standing n work' size q
+  module _ {leaders₁ found queue : List ℕ} {states' leaders' : List ℕ}
+      (m : Assembled s.base.n s.base.states s.base.links s.leaders p leaders₁ found queue)
+      (t : MadeFrozen s.base.n s.base.states leaders₁ found queue states' leaders') where
+    finds : (q : ℕ) → q < n → T (is_draft b q & reaches b p q) → Standing queue q
     unfolding link_at state
     finds q h u = m.all q h ((is_draft→ b q h (and_left (is_draft b q) (reaches b p q) u)).is, reaches→ b p q (and_right (is_draft b q) (reaches b p q) u))
 
-    turns : (q : ℕ) → q < n → Standing n work' size q → T (is_draft b q & reaches b p q)
+    turns : (q : ℕ) → q < n → Standing queue q → T (is_draft b q & reaches b p q)
     unfolding link_at state
     turns q h e = let r = m.«only» q h e in and_both (is_draft b q) (reaches b p q) (→is_draft b q r.0) (→reaches b p q h r.1)
 

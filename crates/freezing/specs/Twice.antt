@@ -11,13 +11,13 @@ use Rattle.rules.specs.Commands.{Verdict, accepted, refused, first_of, is_again,
 use Rattle.rules.specs.Calls.{answered, accepted_by, done_by, listing, fresh, effect, effected, effect_of, ReadyStore, Did}
 use Rattle.rules.specs.declared.Refusal.{Refusal}
 use Rattle.rules.specs.declared.Command.TheVariants.{Freeze}
-use Rattle.rules.specs.declared.Answer.{Answer}
 use Rattle.laws.specs.Numbers.{lt_or}
 use Rattle.laws.specs.Verdicts.{Itself, itself_by}
 use Rattle.demands.specs.Sound.{OkStore}
 use Rattle.demands.specs.Again.{again_held, held_frozen, held_again, again_accepted, again_stays}
 use Rattle.naming.specs.Rows.{piece_rows}
 use Rattle.naming.specs.Told.{piece_right}
+use Rattle.rules.specs.Replies.{Answer}
 
 ok_of : {s : Store} → ReadyStore s → OkStore s
 ok_of r = record { sized = r.sized; sound = r.sound }

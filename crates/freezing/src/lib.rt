@@ -1,4 +1,5 @@
 // Freeze by a seat, on a sound store: groups are found once, at freeze.
+// The areas come one by one: some are read and some are written, and a struct of `&mut` slices would need a clause for each that it stays the same slice.
 #![tactic(auto)]
 
 ghost use Rattle.std.specs.Prelude.{◌≡◌, [], ◌*◌, ◌≤◌, length, drop};
@@ -11,34 +12,31 @@ ghost use Rattle.freezing.specs.Freezable.{Freezable};
 ghost use Rattle.freezing.specs.Unmarked.{Unmarkable, Unmarked};
 ghost use Rattle.freezing.specs.Found.{Findable, Found};
 
-use naming::Name;
 use rules::{Answer, Refusal, Store};
 
 // Marks what stands in the queue as unseen.
-fn unmark(n: usize, work: &mut [u32], size: usize)
-    requires { Unmarkable n work.old size }
-    ensures { Unmarked n work.old size work.new }
+fn unmark(n: usize, work: &mut [u32], queue: &[u32])
+    requires { Unmarkable n work.old queue.now }
+    ensures { Unmarked n work.old queue.now (length queue.now) work.new }
 {
-    let mut j: usize = 0;
-    while j < size {
-        let q = work[6 * n + j] as usize;
-        j += 1;
+    for &piece in queue {
+        let q = piece as usize;
         work[q] = 0;
         work[n + q] = 0;
     }
 }
 
-// Finds the leaders of the drafts that p reaches, which stand in the queue of this size: of p alone without a search.
-fn find(n: usize, states: &[u8], links: &[u16], work: &mut [u32], p: usize, size: usize)
-    requires { Findable n states.now links.now work.old p size }
+// Finds the leaders of the drafts that p reaches, which stand in the queue: of p alone without a search.
+fn find(n: usize, states: &[u8], links: &[u16], work: &mut [u32], p: usize, queue: &[u32])
+    requires { Findable n states.now links.now work.old p queue.now }
     ensures { Found n states.now links.now work.old p work.new }
 {
-    if size == 1 {
+    if queue.len() == 1 {
         work[2 * n + p] = p as u32;
         return;
     }
-    unmark(n, work, size);
-    groups::visit(n, states, links, 1, work, p);
+    unmark(n, work, queue);
+    groups::visit(n, states, links, Store::DRAFT, work, p);
 }
 
 // Draft p and every draft it reaches become frozen; p gets one hold.
@@ -59,12 +57,15 @@ fn freeze_draft(
     ensures named { Into n states.new links.now into.new }
     ensures later { drop (8 * n) work.new ≡ drop (8 * n) work.old }
 {
-    let size = gathering::gather(n, states, links, leaders, work, p);
-    find(n, states, links, work, p, size);
-    recounting::take_all(n, states, links, leaders, counts, into, work, size);
+    let (regions, entries) = work.split_at_mut(6 * n);
+    let size = gathering::gather(n, states, links, leaders, entries, p);
+    let queue = &entries[..size];
+    find(n, states, links, regions, p, queue);
+    let found = &regions[2 * n..3 * n];
+    recounting::take_all(n, states, links, leaders, counts, into, found, queue);
     let l = leaders[p] as usize;
     holds[p] = 1;
-    counts[l] = counts[l] + 1;
+    counts[l] += 1;
 }
 
 // P and every draft it reaches become frozen; P gets one hold of the seat's. If P is frozen already it gets one where the seat has none, and else nothing changes.
@@ -89,17 +90,14 @@ pub fn freeze(
     ensures later { drop (8 * n) work.new ≡ drop (8 * n) work.old }
 {
     if Store::SEATS <= seat {
-        return Answer::Refused(Refusal::Seat);
+        return Err(Refusal::Seat);
     }
-    match naming::piece(n, states, p) {
-        Name::Wrong(refusal) => return Answer::Refused(refusal),
-        Name::Right => {}
-    }
+    naming::piece(n, states, p)?;
     let q = p as usize;
     let line = register::find(register, seat, p);
     if states[q] == Store::DRAFT {
         if !register::has_room(register, line, seat, p) {
-            return Answer::Refused(Refusal::Register);
+            return Err(Refusal::Register);
         }
         freeze_draft(n, states, links, leaders, holds, counts, into, work, q);
         register::first(register, line, seat, p);
@@ -109,10 +107,10 @@ pub fn freeze(
         return Store::fresh();
     }
     if holds[q] >= Store::HOLDS {
-        return Answer::Refused(Refusal::Limit);
+        return Err(Refusal::Limit);
     }
     if !register::has_room(register, line, seat, p) {
-        return Answer::Refused(Refusal::Register);
+        return Err(Refusal::Register);
     }
     holding::add_hold(n, leaders, holds, counts, q);
     register::first(register, line, seat, p);

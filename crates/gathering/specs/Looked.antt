@@ -14,45 +14,42 @@ abbrev Seen : ℕ → List ℕ → List ℕ → ℕ → Type 0
 Seen n states leaders t = t < n → states ! t ≡ 1 → leaders ! t < n
 
 -- the queue has grown: what stood there stands at its place
-record Grown (n : ℕ) (leaders work : List ℕ) (tail : ℕ) (leaders' work' : List ℕ) (tail' : ℕ) : Type 0 where
+record Grown (n : ℕ) (leaders entries : List ℕ) (tail : ℕ) (leaders' entries' : List ℕ) (tail' : ℕ) : Type 0 where
   pub least : tail ≤ tail'
   pub still : (q : ℕ) → leaders ! q < n → leaders' ! q < n
-  pub before : (j : ℕ) → j < tail → work' ! (6 * n + j) ≡ work ! (6 * n + j)
+  pub before : (j : ℕ) → j < tail → entries' ! j ≡ entries ! j
 
 -- the first j pieces of the queue are passed
-pub record Walked (n : ℕ) (states links leaders₀ work₀ : List ℕ) (p : ℕ) (leaders work : List ℕ) (j tail : ℕ) : Type 0 where
-  pub queue : Queue n states links leaders₀ work₀ p leaders work tail
-  pub first : (0 < tail) × (work ! (6 * n) ≡ p)
+pub record Walked (n : ℕ) (states links leaders₀ entries₀ : List ℕ) (p : ℕ) (leaders entries : List ℕ) (j tail : ℕ) : Type 0 where
+  pub queue : Queue n states links leaders₀ entries₀ p leaders entries tail
+  pub first : (0 < tail) × (entries ! 0 ≡ p)
   pub most : j ≤ tail
-  pub closed : (i k : ℕ) → i < j → k < 4 → links ! (4 * (work ! (6 * n + i)) + k) < n → states ! (links ! (4 * (work ! (6 * n + i)) + k)) ≡ 1
-      → leaders ! (links ! (4 * (work ! (6 * n + i)) + k)) < n
+  pub closed : (i k : ℕ) → i < j → k < 4 → links ! (4 * (entries ! i) + k) < n → states ! (links ! (4 * (entries ! i) + k)) ≡ 1
+      → leaders ! (links ! (4 * (entries ! i) + k)) < n
 
 -- of piece j the first k places are
-pub record Looked (n : ℕ) (states links leaders₀ work₀ : List ℕ) (p q j k tail : ℕ) (leaders work : List ℕ) : Type 0 where
-  pub walked : Walked n states links leaders₀ work₀ p leaders work j tail
+pub record Looked (n : ℕ) (states links leaders₀ entries₀ : List ℕ) (p q j k tail : ℕ) (leaders entries : List ℕ) : Type 0 where
+  pub walked : Walked n states links leaders₀ entries₀ p leaders entries j tail
   pub more : j < tail
-  pub at : work ! (6 * n + j) ≡ q
+  pub at : entries ! j ≡ q
   pub seen : (m : ℕ) → m < k → links ! (4 * q + m) < n → states ! (links ! (4 * q + m)) ≡ 1 → leaders ! (links ! (4 * q + m)) < n
 
-module _ {n : ℕ} {states links leaders₀ work₀ : List ℕ} {p : ℕ} (g : Gathering n states links leaders₀ work₀ p) where
-  pub looked_start : {leaders work : List ℕ} {j tail : ℕ} → Walked n states links leaders₀ work₀ p leaders work j tail → j < tail
-      → Looked n states links leaders₀ work₀ p (work ! (6 * n + j)) j 0 tail leaders work
+module _ {n : ℕ} {states links leaders₀ entries₀ : List ℕ} {p : ℕ} (g : Gathering n states links leaders₀ entries₀ p) where
+  pub looked_start : {leaders entries : List ℕ} {j tail : ℕ} → Walked n states links leaders₀ entries₀ p leaders entries j tail → j < tail
+      → Looked n states links leaders₀ entries₀ p (entries ! j) j 0 tail leaders entries
   looked_start w h = record { walked = w; more = h; at = refl; seen = λ m l. absurd (omega arith) }
 
-  module _ {leaders work : List ℕ} {q j k tail : ℕ} (a : Looked n states links leaders₀ work₀ p q j k tail leaders work) where
+  module _ {leaders entries : List ℕ} {q j k tail : ℕ} (a : Looked n states links leaders₀ entries₀ p q j k tail leaders entries) where
     mine : Mine n states links p leaders q
     mine = subst (Mine n states links p leaders) a.at (a.walked.queue.each j a.more)
 
-    pub looked_below : q < n
-    looked_below = mine.below
-
     -- place k is looked at
-    looked-more : {leaders' work' : List ℕ} {tail' : ℕ} → Queue n states links leaders₀ work₀ p leaders' work' tail' → Grown n leaders work tail leaders' work' tail'
-        → Seen n states leaders' (links ! (4 * q + k)) → Looked n states links leaders₀ work₀ p q j (k + 1) tail' leaders' work'
-    looked-more {leaders'} {work'} {tail'} c w s = record {
+    looked-more : {leaders' entries' : List ℕ} {tail' : ℕ} → Queue n states links leaders₀ entries₀ p leaders' entries' tail' → Grown n leaders entries tail leaders' entries' tail'
+        → Seen n states leaders' (links ! (4 * q + k)) → Looked n states links leaders₀ entries₀ p q j (k + 1) tail' leaders' entries'
+    looked-more {leaders'} {entries'} {tail'} c w s = record {
       walked = record {
         queue = c;
-        first = (omega (arith, w.least, a.walked.first.0), zeroth);
+        first = (omega (arith, w.least, a.walked.first.0), w.before 0 a.walked.first.0 ∙ a.walked.first.1);
         most = omega (arith, w.least, a.walked.most);
         closed = λ i m h l u d.
             let e = w.before i (omega (arith, a.more)) in
@@ -66,14 +63,9 @@ module _ {n : ℕ} {states links leaders₀ work₀ : List ℕ} {p : ℕ} (g : G
           (λ f. w.still _ (a.seen m (omega arith) u d))
           (eq_or m k);
     }
-      where
-        zeroth : work' ! (6 * n) ≡ p
-        zeroth =
-            let e : 6 * n + 0 ≡ 6 * n = omega arith in
-            ap (λ (x : ℕ). work' ! x) (sym e) ∙ w.before 0 a.walked.first.0 ∙ ap (λ (x : ℕ). work ! x) e ∙ a.walked.first.1
 
-    pub looked-next : k < 4 → {leaders' work' : List ℕ} {tail' : ℕ} → Put n states leaders work (links ! (4 * q + k)) tail leaders' work' tail'
-        → Looked n states links leaders₀ work₀ p q j (k + 1) tail' leaders' work'
+    pub looked-next : k < 4 → {leaders' entries' : List ℕ} {tail' : ℕ} → Put n states leaders entries (links ! (4 * q + k)) tail leaders' entries' tail'
+        → Looked n states links leaders₀ entries₀ p q j (k + 1) tail' leaders' entries'
     looked-next h (stayed f) =
         looked-more a.walked.queue (record { least = le_refl tail; still = λ r x. x; before = λ i _. refl })
         (λ u d. ⊎_elim (λ x. x) (λ e. absurd (f (record { below = u; draft = d; bare = e }))) (a.walked.queue.either (links ! (4 * q + k)) u d))
@@ -82,7 +74,7 @@ module _ {n : ℕ} {states links leaders₀ work₀ : List ℕ} {p : ℕ} (g : G
         (record {
           least = omega arith;
           still = λ r x. subst (λ (y : ℕ). y < n) (sym (get_or-set_other leaders (links ! (4 * q + k)) r (links ! (4 * q + k)) 0 (apart r x))) x;
-          before = λ i l. get_or-set_other work (6 * n + tail) (6 * n + i) (links ! (4 * q + k)) 0 (λ e. omega arith);
+          before = λ i l. get_or-set_other entries tail i (links ! (4 * q + k)) 0 (λ e. omega arith);
         })
         (λ u d. subst (λ (y : ℕ). y < n) (sym (get_or-set_same leaders (links ! (4 * q + k)) (links ! (4 * q + k)) 0 inside)) u)
       where
@@ -99,15 +91,15 @@ module _ {n : ℕ} {states links leaders₀ work₀ : List ℕ} {p : ℕ} (g : G
         way = trans mine.reached (one_step (record { from = mine.below; to = f.below; place = k; inside = h; names = refl }))
 
   -- all four are
-  pub looked-all : {leaders work : List ℕ} {q j tail : ℕ} → Looked n states links leaders₀ work₀ p q j 4 tail leaders work
-      → Walked n states links leaders₀ work₀ p leaders work (j + 1) tail
-  looked-all {leaders} {work} {q} {j} a = record {
+  pub looked-all : {leaders entries : List ℕ} {q j tail : ℕ} → Looked n states links leaders₀ entries₀ p q j 4 tail leaders entries
+      → Walked n states links leaders₀ entries₀ p leaders entries (j + 1) tail
+  looked-all {leaders} {entries} {q} {j} a = record {
     queue = a.walked.queue;
     first = a.walked.first;
     most = omega (arith, a.more);
     closed = λ i k h l u d. ⊎_elim
         (λ e. subst (λ (x : ℕ). links ! (4 * x + k) < n → states ! (links ! (4 * x + k)) ≡ 1 → leaders ! (links ! (4 * x + k)) < n)
-        (sym (ap (λ (x : ℕ). work ! (6 * n + x)) e ∙ a.at)) (a.seen k l) u d)
+        (sym (ap (λ (x : ℕ). entries ! x) e ∙ a.at)) (a.seen k l) u d)
         (λ f. a.walked.closed i k (omega arith) l u d)
         (eq_or i j);
   }
@@ -115,37 +107,26 @@ module _ {n : ℕ} {states links leaders₀ work₀ : List ℕ} {p : ℕ} (g : G
 -- ---- one piece of the queue
 
 -- q stands in the queue, wherever it began
-pub record Looking (n : ℕ) (states links leaders work : List ℕ) (q tail : ℕ) : Type 0 where
+pub record Looking (n : ℕ) (states links leaders entries : List ℕ) (q tail : ℕ) : Type 0 where
   pub leaders₀ : List ℕ
-  pub work₀ : List ℕ
+  pub entries₀ : List ℕ
   pub p : ℕ
   pub j : ℕ
-  pub begun : Gathering n states links leaders₀ work₀ p
-  pub looked : Looked n states links leaders₀ work₀ p q j 0 tail leaders work
+  pub begun : Gathering n states links leaders₀ entries₀ p
+  pub looked : Looked n states links leaders₀ entries₀ p q j 0 tail leaders entries
 
 -- wherever it began, the first k places of q are looked at
-pub record LookedAt (n : ℕ) (states links : List ℕ) (q : ℕ) (leaders work : List ℕ) (tail k : ℕ) (leaders' work' : List ℕ) (tail' : ℕ) : Type 0 where
-  pub on : {leaders₀ work₀ : List ℕ} {p j : ℕ} → Gathering n states links leaders₀ work₀ p → Looked n states links leaders₀ work₀ p q j 0 tail leaders work
-      → Looked n states links leaders₀ work₀ p q j k tail' leaders' work'
+pub record LookedAt (n : ℕ) (states links : List ℕ) (q : ℕ) (leaders entries : List ℕ) (tail k : ℕ) (leaders' entries' : List ℕ) (tail' : ℕ) : Type 0 where
+  pub on : {leaders₀ entries₀ : List ℕ} {p j : ℕ} → Gathering n states links leaders₀ entries₀ p → Looked n states links leaders₀ entries₀ p q j 0 tail leaders entries
+      → Looked n states links leaders₀ entries₀ p q j k tail' leaders' entries'
 
-module _ {n : ℕ} {states links : List ℕ} {q : ℕ} {leaders work : List ℕ} {tail : ℕ} where
-  pub at_none : LookedAt n states links q leaders work tail 0 leaders work tail
-  at_none = record { on = λ g a. a }
-
-  pub at_first : {leaders₁ work₁ : List ℕ} {tail₁ : ℕ} → Put n states leaders work (links ! (4 * q)) tail leaders₁ work₁ tail₁
-      → LookedAt n states links q leaders work tail 1 leaders₁ work₁ tail₁
-  at_first {leaders₁} {work₁} {tail₁} x = record {
-    on = λ g b.
-        let e : 4 * q ≡ 4 * q + 0 = omega arith in
-        looked-next g b (omega arith) (subst (λ (i : ℕ). Put n states leaders work (links ! i) tail leaders₁ work₁ tail₁) e x);
-  }
-
-  pub at_next : {k : ℕ} {leaders₁ work₁ : List ℕ} {tail₁ : ℕ} {leaders₂ work₂ : List ℕ} {tail₂ : ℕ}
-      → LookedAt n states links q leaders work tail k leaders₁ work₁ tail₁ → k < 4
-      → Put n states leaders₁ work₁ (links ! (4 * q + k)) tail₁ leaders₂ work₂ tail₂ → LookedAt n states links q leaders work tail (k + 1) leaders₂ work₂ tail₂
+module _ {n : ℕ} {states links : List ℕ} {q : ℕ} {leaders entries : List ℕ} {tail : ℕ} where
+  pub at_next : {k : ℕ} {leaders₁ entries₁ : List ℕ} {tail₁ : ℕ} {leaders₂ entries₂ : List ℕ} {tail₂ : ℕ}
+      → LookedAt n states links q leaders entries tail k leaders₁ entries₁ tail₁ → k < 4
+      → Put n states leaders₁ entries₁ (links ! (4 * q + k)) tail₁ leaders₂ entries₂ tail₂ → LookedAt n states links q leaders entries tail (k + 1) leaders₂ entries₂ tail₂
   at_next a h x = record { on = λ g b. looked-next g (a.on g b) h x }
 
   -- what one more put asks
-  pub at_putting : {k : ℕ} {leaders₁ work₁ : List ℕ} {tail₁ t : ℕ} → Looking n states links leaders work q tail
-      → LookedAt n states links q leaders work tail k leaders₁ work₁ tail₁ → Putting n states leaders₁ work₁ t tail₁
+  pub at_putting : {k : ℕ} {leaders₁ entries₁ : List ℕ} {tail₁ t : ℕ} → Looking n states links leaders entries q tail
+      → LookedAt n states links q leaders entries tail k leaders₁ entries₁ tail₁ → Putting n states leaders₁ entries₁ t tail₁
   at_putting z a = putting z.begun (a.on z.begun z.looked).walked.queue

@@ -1,90 +1,73 @@
 -- The walk over the queue: the places of the pieces before j are looked at, and what they name stands in the queue.
-use Rattle.std.specs.Prelude.{◌≡◌, refl, ◌⊎◌, List, ℕ, ◌+◌, ◌*◌, ◌≤◌, ◌<◌, length, set}
+use Rattle.std.specs.Prelude.{◌≡◌, ◌⊎◌, List, ℕ, ◌+◌, ◌*◌, ◌≤◌, ◌<◌, length, set}
 use Rattle.std.proofs.Common.{sym, ap, ◌∙◌, subst, inl, inr, ⊎_elim, arith, get_or-set_same}
 use Rattle.std.proofs.Math.ListN.{get_or-eq_default}
 use Rattle.rules.specs.Lists.{◌!◌}
 use Rattle.rules.specs.Reach.{Reach, here, chain}
 use Rattle.laws.specs.Numbers.{eq_or, lt_or}
 use Rattle.paths.specs.Ground.{link_in}
-use Rattle.gathering.specs.Queue.{Gathering, Queue, queue_none, queue_put, queue_most}
+use Rattle.gathering.specs.Queue.{Gathering, queue_none, queue_put, queue_most}
 use Rattle.gathering.specs.Looked.{Walked, looked_start, looked-all, Looking, LookedAt}
 
 -- all drafts that p reaches stand in the queue, each once, and none else; they alone have another leader
-pub record Gathered (n : ℕ) (states links leaders work : List ℕ) (p : ℕ) (leaders' work' : List ℕ) (size : ℕ) : Type 0 where
+pub record Gathered (n : ℕ) (states links leaders entries : List ℕ) (p : ℕ) (leaders' entries' : List ℕ) (size : ℕ) : Type 0 where
   pub leaders_n : length leaders' ≡ length leaders
-  pub work_n : length work' ≡ length work
+  pub entries_n : length entries' ≡ length entries
   pub some : 0 < size
   pub most : size ≤ n
-  pub first : work' ! (6 * n) ≡ p
-  pub each : (j : ℕ) → j < size → (work' ! (6 * n + j) < n) × (states ! (work' ! (6 * n + j)) ≡ 1) × Reach n (link_in links) p (work' ! (6 * n + j))
-  pub all : (q : ℕ) → q < n → states ! q ≡ 1 → Reach n (link_in links) p q → (j : ℕ) × (j < size) × (work' ! (6 * n + j) ≡ q)
-  pub apart : (i j : ℕ) → i < j → j < size → work' ! (6 * n + i) ≡ work' ! (6 * n + j) → ⊥
+  pub first : entries' ! 0 ≡ p
+  pub each : (j : ℕ) → j < size → (entries' ! j < n) × (states ! (entries' ! j) ≡ 1) × Reach n (link_in links) p (entries' ! j)
+  pub all : (q : ℕ) → q < n → states ! q ≡ 1 → Reach n (link_in links) p q → (j : ℕ) × (j < size) × (entries' ! j ≡ q)
+  pub apart : (i j : ℕ) → i < j → j < size → entries' ! i ≡ entries' ! j → ⊥
   pub left : (q : ℕ) → (states ! q ≡ 1 → ⊥) ⊎ (Reach n (link_in links) p q → ⊥) → leaders' ! q ≡ leaders ! q
-  pub front : (i : ℕ) → i < 6 * n → work' ! i ≡ work ! i
-  pub behind : (i : ℕ) → 6 * n + size ≤ i → work' ! i ≡ work ! i
+  pub behind : (i : ℕ) → size ≤ i → entries' ! i ≡ entries ! i
 
 -- the walk begins with p alone
-pub walked_start : {n : ℕ} {states links leaders work : List ℕ} {p : ℕ} → Gathering n states links leaders work p
-    → Walked n states links leaders work p (set leaders p p) (set work (6 * n) p) 0 1
-walked_start {n} {states} {links} {leaders} {work} {p} g = record {
-  queue = subst (λ (w : List ℕ). Queue n states links leaders work p (set leaders p p) w 1) same
-      (queue_put g (queue_none g) (record { below = g.below; draft = g.is; bare = g.bare p g.below g.is }) here);
-  first = (omega arith, get_or-set_same work (6 * n) p 0 (let x = g.below in omega (arith, g.work_n)));
+pub walked_start : {n : ℕ} {states links leaders entries : List ℕ} {p : ℕ} → Gathering n states links leaders entries p
+    → Walked n states links leaders entries p (set leaders p p) (set entries 0 p) 0 1
+walked_start {n} {states} {links} {leaders} {entries} {p} g = record {
+  queue = queue_put g (queue_none g) (record { below = g.below; draft = g.is; bare = g.bare p g.below g.is }) here;
+  first = (omega arith, get_or-set_same entries 0 p 0 (let x = g.below in omega (arith, g.entries_n)));
   most = omega arith;
   closed = λ i k h. absurd (omega arith);
 }
-  where
-    same : set work (6 * n + 0) p ≡ set work (6 * n) p
-    same = let e : 6 * n + 0 ≡ 6 * n = omega arith in ap (λ (i : ℕ). set work i p) e
 
 -- one piece more
-pub walked_more : {n : ℕ} {states links leaders₀ work₀ : List ℕ} {p : ℕ} {leaders work : List ℕ} {j tail : ℕ} {leaders' work' : List ℕ} {tail' : ℕ}
-    → Gathering n states links leaders₀ work₀ p → Walked n states links leaders₀ work₀ p leaders work j tail → j < tail
-    → LookedAt n states links (work ! (6 * n + j)) leaders work tail 4 leaders' work' tail' → Walked n states links leaders₀ work₀ p leaders' work' (j + 1) tail'
+pub walked_more : {n : ℕ} {states links leaders₀ entries₀ : List ℕ} {p : ℕ} {leaders entries : List ℕ} {j tail : ℕ} {leaders' entries' : List ℕ} {tail' : ℕ}
+    → Gathering n states links leaders₀ entries₀ p → Walked n states links leaders₀ entries₀ p leaders entries j tail → j < tail
+    → LookedAt n states links (entries ! j) leaders entries tail 4 leaders' entries' tail' → Walked n states links leaders₀ entries₀ p leaders' entries' (j + 1) tail'
 walked_more g a h x = looked-all g (x.on g (looked_start g a h))
 
-pub walked_looking : {n : ℕ} {states links leaders₀ work₀ : List ℕ} {p : ℕ} {leaders work : List ℕ} {j tail : ℕ} → Gathering n states links leaders₀ work₀ p
-    → Walked n states links leaders₀ work₀ p leaders work j tail → j < tail → Looking n states links leaders work (work ! (6 * n + j)) tail
-walked_looking {leaders₀ = leaders₀} {work₀} {p} {j = j} g a h = record { leaders₀ = leaders₀; work₀ = work₀; p = p; j = j; begun = g; looked = looked_start g a h }
+pub walked_looking : {n : ℕ} {states links leaders₀ entries₀ : List ℕ} {p : ℕ} {leaders entries : List ℕ} {j tail : ℕ} → Gathering n states links leaders₀ entries₀ p
+    → Walked n states links leaders₀ entries₀ p leaders entries j tail → j < tail → Looking n states links leaders entries (entries ! j) tail
+walked_looking {leaders₀ = leaders₀} {entries₀} {p} {j = j} g a h = record { leaders₀ = leaders₀; entries₀ = entries₀; p = p; j = j; begun = g; looked = looked_start g a h }
 
 -- whatever the walk began with, it has come from its start to piece j
-pub record WalkedOn (n : ℕ) (states links : List ℕ) (p : ℕ) (leaders work leaders' work' : List ℕ) (j tail : ℕ) : Type 0 where
-  pub on : {leaders₀ work₀ : List ℕ} → Gathering n states links leaders₀ work₀ p → Walked n states links leaders₀ work₀ p leaders work 0 1
-      → Walked n states links leaders₀ work₀ p leaders' work' j tail
+pub record WalkedOn (n : ℕ) (states links : List ℕ) (p : ℕ) (leaders entries leaders' entries' : List ℕ) (j tail : ℕ) : Type 0 where
+  pub on : {leaders₀ entries₀ : List ℕ} → Gathering n states links leaders₀ entries₀ p → Walked n states links leaders₀ entries₀ p leaders entries 0 1
+      → Walked n states links leaders₀ entries₀ p leaders' entries' j tail
   pub leaders_n : length leaders' ≡ length leaders
-  pub work_n : length work' ≡ length work
+  pub entries_n : length entries' ≡ length entries
 
-pub walked_on : {n : ℕ} {states links : List ℕ} {p : ℕ} {leaders work : List ℕ} → WalkedOn n states links p leaders work leaders work 0 1
-walked_on = record { on = λ g a. a; leaders_n = refl; work_n = refl }
-
-module _ {n : ℕ} {states links leaders₀ work₀ : List ℕ} {p : ℕ} (g : Gathering n states links leaders₀ work₀ p) {leaders work : List ℕ} {j tail : ℕ}
-    (w : WalkedOn n states links p (set leaders₀ p p) (set work₀ (6 * n) p) leaders work j tail) where
-  pub now_walked : Walked n states links leaders₀ work₀ p leaders work j tail
+module _ {n : ℕ} {states links leaders₀ entries₀ : List ℕ} {p : ℕ} (g : Gathering n states links leaders₀ entries₀ p) {leaders entries : List ℕ} {j tail : ℕ}
+    (w : WalkedOn n states links p (set leaders₀ p p) (set entries₀ 0 p) leaders entries j tail) where
+  pub now_walked : Walked n states links leaders₀ entries₀ p leaders entries j tail
   now_walked = w.on g (walked_start g)
-
-  pub now_below : j < tail → work ! (6 * n + j) < n
-  now_below h = (now_walked.queue.each j h).below
 
   pub now_most : tail ≤ n
   now_most = queue_most g now_walked.queue
 
-  pub now_leaders : length leaders ≡ length leaders₀
-  now_leaders = now_walked.queue.leaders_n
-
-  pub now_work : length work ≡ length work₀
-  now_work = now_walked.queue.work_n
-
-  pub now_more : j < tail → {leaders' work' : List ℕ} {tail' : ℕ} → LookedAt n states links (work ! (6 * n + j)) leaders work tail 4 leaders' work' tail'
-      → length leaders' ≡ length leaders → length work' ≡ length work
-      → WalkedOn n states links p (set leaders₀ p p) (set work₀ (6 * n) p) leaders' work' (j + 1) tail'
+  pub now_more : j < tail → {leaders' entries' : List ℕ} {tail' : ℕ} → LookedAt n states links (entries ! j) leaders entries tail 4 leaders' entries' tail'
+      → length leaders' ≡ length leaders → length entries' ≡ length entries
+      → WalkedOn n states links p (set leaders₀ p p) (set entries₀ 0 p) leaders' entries' (j + 1) tail'
   now_more h x a b = record {
     on = λ f v. walked_more f (w.on f v) h x;
     leaders_n = a ∙ w.leaders_n;
-    work_n = b ∙ w.work_n;
+    entries_n = b ∙ w.entries_n;
   }
 
-module _ {n : ℕ} {states links leaders₀ work₀ : List ℕ} {p : ℕ} (g : Gathering n states links leaders₀ work₀ p) {leaders work : List ℕ} {j tail : ℕ}
-    (a : Walked n states links leaders₀ work₀ p leaders work j tail) (end : tail ≤ j) where
+module _ {n : ℕ} {states links leaders₀ entries₀ : List ℕ} {p : ℕ} (g : Gathering n states links leaders₀ entries₀ p) {leaders entries : List ℕ} {j tail : ℕ}
+    (a : Walked n states links leaders₀ entries₀ p leaders entries j tail) (end : tail ≤ j) where
   -- a piece of the queue reaches no draft that does not stand there
   on : {x q : ℕ} → states ! x ≡ 1 → leaders ! x < n → Reach n (link_in links) x q → states ! q ≡ 1 → leaders ! q < n
   on d h here e = h
@@ -93,21 +76,20 @@ module _ {n : ℕ} {states links leaders₀ work₀ : List ℕ} {p : ℕ} (g : G
       (λ f. absurd (g.closed.stays d l f e r))
       (eq_or (states ! y) 1)
     where
-      next : (i : ℕ) × (i < tail) × (work ! (6 * n + i) ≡ x) → states ! y ≡ 1 → leaders ! y < n
+      next : (i : ℕ) × (i < tail) × (entries ! i ≡ x) → states ! y ≡ 1 → leaders ! y < n
       next w f =
-          let names : links ! (4 * (work ! (6 * n + w.0)) + l.place) ≡ y = ap (λ (z : ℕ). links ! (4 * z + l.place)) w.2 ∙ l.names in
+          let names : links ! (4 * (entries ! w.0) + l.place) ≡ y = ap (λ (z : ℕ). links ! (4 * z + l.place)) w.2 ∙ l.names in
           subst (λ (z : ℕ). leaders ! z < n) names
           (a.closed w.0 l.place (let k = w.1 in omega arith) l.inside (subst (λ (z : ℕ). z < n) (sym names) l.to) (ap (λ (z : ℕ). states ! z) names ∙ f))
 
   p_marked : leaders ! p < n
   p_marked =
-      let e : 6 * n + 0 ≡ 6 * n = omega arith in
-      subst (λ (x : ℕ). leaders ! x < n) (ap (λ (x : ℕ). work ! x) e ∙ a.first.1) (a.queue.each 0 a.first.0).marked
+      subst (λ (x : ℕ). leaders ! x < n) a.first.1 (a.queue.each 0 a.first.0).marked
 
-  pub gathered : Gathered n states links leaders₀ work₀ p leaders work tail
+  pub gathered : Gathered n states links leaders₀ entries₀ p leaders entries tail
   gathered = record {
     leaders_n = a.queue.leaders_n;
-    work_n = a.queue.work_n;
+    entries_n = a.queue.entries_n;
     some = a.first.0;
     most = queue_most g a.queue;
     first = a.first.1;
@@ -115,7 +97,6 @@ module _ {n : ℕ} {states links leaders₀ work₀ : List ℕ} {p : ℕ} (g : G
     all = λ q h d r. a.queue.all q h d (on g.is p_marked r d);
     apart = a.queue.apart;
     left = λ q f. ⊎_elim (λ d. draft_left q d f) (λ d. a.queue.left q d) (eq_or (states ! q) 1);
-    front = a.queue.front;
     behind = a.queue.behind;
   }
     where

@@ -1,4 +1,5 @@
 // The drafts that a draft reaches, gathered in a queue: what a freeze touches, and nothing else.
+// The areas come one by one: some are read and some are written, and a struct of `&mut` slices would need a clause for each that it stays the same slice.
 #![tactic(auto)]
 
 ghost use Rattle.gathering.specs.Put.{Putting, Put};
@@ -13,12 +14,12 @@ fn put(
     n: usize,
     states: &[u8],
     leaders: &mut [u16],
-    work: &mut [u32],
+    entries: &mut [u32],
     t: usize,
     tail: usize,
 ) -> usize
-    requires { Putting n states.now leaders.old work.old t tail }
-    ensures { Put n states.now leaders.old work.old t tail leaders.new work.new result }
+    requires { Putting n states.now leaders.old entries.old t tail }
+    ensures { Put n states.now leaders.old entries.old t tail leaders.new entries.new result }
 {
     if n <= t {
         return tail;
@@ -30,7 +31,7 @@ fn put(
         return tail;
     }
     leaders[t] = t as u16;
-    work[6 * n + tail] = t as u32;
+    entries[tail] = t as u32;
     tail + 1
 }
 
@@ -40,40 +41,41 @@ fn look(
     states: &[u8],
     links: &[u16],
     leaders: &mut [u16],
-    work: &mut [u32],
+    entries: &mut [u32],
     q: usize,
-    tail: usize,
+    mut tail: usize,
 ) -> usize
-    requires { Looking n states.now links.now leaders.old work.old q tail }
-    ensures { LookedAt n states.now links.now q leaders.old work.old tail 4 leaders.new work.new result }
+    requires { Looking n states.now links.now leaders.old entries.old q tail }
+    ensures { LookedAt n states.now links.now q leaders.old entries.old tail 4 leaders.new entries.new result }
 {
-    let at = Store::LINKS * q;
-    let one = put(n, states, leaders, work, links[at] as usize, tail);
-    let two = put(n, states, leaders, work, links[at + 1] as usize, one);
-    let three = put(n, states, leaders, work, links[at + 2] as usize, two);
-    put(n, states, leaders, work, links[at + 3] as usize, three)
+    for k in 0..Store::LINKS {
+        let t = links[Store::LINKS * q + k] as usize;
+        tail = put(n, states, leaders, entries, t, tail);
+    }
+    tail
 }
 
-// Gathers draft p and every draft that it reaches in the seventh region of work. Gives how many they are.
+// Gathers draft p and every draft that it reaches at the front of the entries. Gives how many they are.
 pub fn gather(
     n: usize,
     states: &[u8],
     links: &[u16],
     leaders: &mut [u16],
-    work: &mut [u32],
+    entries: &mut [u32],
     p: usize,
 ) -> usize
-    requires { Gathering n states.now links.now leaders.old work.old p }
-    ensures { Gathered n states.now links.now leaders.old work.old p leaders.new work.new result }
+    requires { Gathering n states.now links.now leaders.old entries.old p }
+    ensures { Gathered n states.now links.now leaders.old entries.old p leaders.new entries.new result }
 {
     leaders[p] = p as u16;
-    work[6 * n] = p as u32;
+    entries[0] = p as u32;
     let mut tail: usize = 1;
     let mut j: usize = 0;
+    // No `for`: the end of the queue moves while it is walked.
     while j < tail {
-        let q = work[6 * n + j] as usize;
+        let q = entries[j] as usize;
         j += 1;
-        tail = look(n, states, links, leaders, work, q, tail);
+        tail = look(n, states, links, leaders, entries, q, tail);
     }
     tail
 }

@@ -1,5 +1,5 @@
 -- New on sound tables: the lowest free number is the one that new gives out, and a new draft changes no leader and no count.
-use Rattle.std.specs.Prelude.{◌≢◌, not, [], ℕ, ◌≤◌, ◌<◌}
+use Rattle.std.specs.Prelude.{◌≢◌, not, [], ℕ, ◌≤◌, ◌<◌, Err}
 use Rattle.std.proofs.Common.{arith}
 use Rattle.std.proofs.Math.Path.{◌≡◌, refl, sym, ap, ◌∙◌, subst}
 use Rattle.std.proofs.Math.Dec.{T_not, not_T, eqb, eqb→eq}
@@ -13,7 +13,6 @@ use Rattle.rules.specs.Tables.{tables_of}
 use Rattle.rules.specs.Calls.{Ready, answered, done_by, accepted_by, refused_by, listing}
 use Rattle.rules.specs.declared.Refusal.TheVariants.{Full}
 use Rattle.rules.specs.declared.Command.TheVariants.{New}
-use Rattle.rules.specs.declared.Answer.TheVariants.{Done, Refused}
 use Rattle.laws.specs.ByTables.{DidTables, tables_effect}
 use Rattle.laws.specs.Below.{→every, every→}
 use Rattle.laws.specs.Words.{eqb_of, neqb_of}
@@ -24,10 +23,11 @@ use Rattle.laws.specs.ByTables.{accepts, refuses, did_refused, did_accepted}
 use Rattle.tallies.specs.Stores.{exact_moves, good_of, wells_of, exact_of, match_of}
 use Rattle.tallies.specs.Finished.{finished}
 use Rattle.areas.specs.Lowest.{LowestFree}
+use Rattle.rules.specs.Replies.{done}
 
 -- no number is free
 pub full_did : {s : Tables} {r : ℕ} → LowestFree s.base.n s.base.states r → r ≡ s.base.n
-    → DidTables New s [] (tables_effect (answered (Refused Full)) s [])
+    → DidTables New s [] (tables_effect (answered (Err Full)) s [])
 unfolding refused_by table_refusals none_free is_free state
 full_did {s} f e =
     did_refused New s [] Full
@@ -117,10 +117,10 @@ module _ {s : Tables} {r : ℕ} (ready : Ready s) (f : LowestFree s.base.n s.bas
       ready.sized.counts (match_of s ready)
       ∙ ap finish (sym after_is)
 
-  pub new_did : DidTables New s [] (tables_effect (answered (Done r 0)) s' [])
+  pub new_did : DidTables New s [] (tables_effect (answered (done r 0)) s' [])
   unfolding accepted_by done_by value_of freed_by settles listing
   new_did = record {
     exact =
-        (λ i. record { reply = answered (Done (sym first_is i) 0); tables = next_is i; list = [] })
+        (λ i. record { reply = answered (done (sym first_is i) 0); tables = next_is i; list = [] })
         ∙ (did_accepted New s [] (accepts new_passes)).exact;
   }

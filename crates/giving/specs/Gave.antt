@@ -3,9 +3,9 @@ use Rattle.std.specs.Prelude.{◌≡◌, List, [], ℕ, ◌≤◌, length}
 use Rattle.rules.specs.Tables.{Tables, tables_of}
 use Rattle.rules.specs.Calls.{Ready, answered}
 use Rattle.rules.specs.declared.Command.TheVariants.{New}
-use Rattle.rules.specs.declared.Answer.{Answer}
 use Rattle.laws.specs.ByTables.{DidTables, tables_effect}
 use Rattle.areas.specs.Lowest.{NoneFree}
+use Rattle.rules.specs.Replies.{Answer}
 
 -- states of their length, of which no number below from is free
 pub record Giving (n : ℕ) (states : List ℕ) (from : ℕ) : Type 0 where

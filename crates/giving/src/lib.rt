@@ -3,7 +3,7 @@
 
 ghost use Rattle.giving.specs.Gave.{Giving, Gave};
 
-use rules::{Answer, Refusal, Store};
+use rules::{Answer, Done, Refusal, Store};
 
 // The lowest free number becomes a draft, where no number below from is free; its number is the value.
 pub fn new(n: usize, states: &mut [u8], from: usize) -> Answer
@@ -12,9 +12,9 @@ pub fn new(n: usize, states: &mut [u8], from: usize) -> Answer
 {
     let p = areas::lowest_free(n, states, from);
     if p == n {
-        return Answer::Refused(Refusal::Full);
+        return Err(Refusal::Full);
     }
     states[p] = Store::DRAFT;
     let value = p as u16;
-    Answer::Done { value, freed: 0 }
+    Ok(Done { value, freed: 0 })
 }

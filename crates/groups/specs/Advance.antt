@@ -1,10 +1,9 @@
 -- The places of pieces are explored one by one, until a piece has none left.
 use Rattle.std.specs.Prelude.{◌≡◌, refl, List, ℕ, zero, suc, ◌+◌, ◌-◌, ◌*◌, ◌≤◌, ◌<◌, length}
-use Rattle.std.proofs.Common.{◌∙◌, subst, arith}
+use Rattle.std.proofs.Common.{sym, ◌∙◌, subst, arith}
 use Rattle.rules.specs.Lists.{◌!◌}
-use Rattle.areas.specs.Four.{Four, one_at_most, two_at_most}
-use Rattle.groups.specs.Steps.{UnderWay, Progressed, Came, Advanced, Ending}
-use Rattle.groups.specs.Explore.{next_place, entered, place_le, step_past}
+use Rattle.groups.specs.Steps.{UnderWay, Progressed, Followed, Came, Advanced, Ending}
+use Rattle.groups.specs.Explore.{next_place, entered, place_le, step_other}
 use Rattle.groups.specs.declared.At.{At}
 
 -- where the search stands, by its numbers
@@ -45,8 +44,19 @@ came-rest {n} {ss} {ls} {k} {w} zero {a} G e h =
     let z : a.place ≡ 4 = omega arith in
     subst (λ (j : ℕ). Came n ss ls k w a w (at a.size a.blocks a.stand a.piece j)) z came-none
 came-rest {n} {ss} {ls} {k} {w} (suc m) {a} G e h =
-    let P : Came n ss ls k w a w (next_place a a.blocks) = came-more came-none refl (step_past G (omega arith) (h a.place (omega arith) (omega arith))) in
+    let P : Came n ss ls k w a w (next_place a a.blocks) = came-more came-none refl (step_other G (omega arith) (λ lt i. omega (arith, h a.place (omega arith) (omega arith)))) in
     came_on P (came-rest m (came_going P G G.live) (omega arith) (λ j l u. h j (omega arith) u))
+
+-- ---- one place
+
+pub passed : {n : ℕ} {ss ls : List ℕ} {k : ℕ} {w : List ℕ} {a : At} {w₁ : List ℕ} {left : ℕ} → UnderWay n ss ls k w a
+    → Progressed n ss ls k w a w₁ (next_place a left) → Followed n ss ls k w a w₁ (next_place a left)
+passed G T = record { progressed = T; live = G.live; same = λ f. refl }
+
+pub pushed : {n : ℕ} {ss ls : List ℕ} {k : ℕ} {w : List ℕ} {a : At} {w₁ : List ℕ} {y : ℕ} {d : At} → d ≡ entered a y → Progressed n ss ls k w a w₁ (entered a y)
+    → Followed n ss ls k w a w₁ d
+pushed {n} {ss} {ls} {k} {w} {a} {w₁} e T =
+    subst (λ (x : At). Followed n ss ls k w a w₁ x) (sym e) (record { progressed = T; live = omega arith; same = λ f. absurd (f refl) })
 
 -- ---- the loop: where it stands, with no piece named from place `end` on
 
@@ -55,24 +65,14 @@ pub record Exploring (n : ℕ) (ss ls : List ℕ) (k : ℕ) (w : List ℕ) (a : 
   pub live : 0 < b.size
   pub ending : Ending ls b.piece end
 
-pub exploring_four : {n : ℕ} {ss ls : List ℕ} {k : ℕ} {w : List ℕ} {a : At} {w₁ : List ℕ} {b : At} {end : ℕ} → Exploring n ss ls k w a w₁ b end → b.place < end → b.place < 4
-exploring_four X lt = omega (arith, X.ending.few)
-
 module _ {n : ℕ} {ss ls : List ℕ} {k : ℕ} {w : List ℕ} {a : At} (G : UnderWay n ss ls k w a) where
-  pub exploring_none : {end : ℕ} → Ending ls a.piece end → Exploring n ss ls k w a w a end
-  exploring_none e = record { came = came-none; live = G.live; ending = e }
-
   module _ {w₁ : List ℕ} {b : At} {end : ℕ} (X : Exploring n ss ls k w a w₁ b end) where
     pub exploring_going : UnderWay n ss ls k w₁ b
     exploring_going = came_going X.came G X.live
 
-    -- a place more is passed
-    pub exploring_on : {w₂ : List ℕ} {left : ℕ} → length w₂ ≡ length w₁ → Progressed n ss ls k w₁ b w₂ (next_place b left) → Exploring n ss ls k w a w₂ (next_place b left) end
-    exploring_on len T = record { came = came-more X.came len T; live = X.live; ending = X.ending }
-
-    -- its target is pushed
-    pub exploring_in : {w₂ : List ℕ} {y : ℕ} → length w₂ ≡ length w₁ → Progressed n ss ls k w₁ b w₂ (entered b y) → Exploring n ss ls k w a w₂ (entered b y) 4
-    exploring_in len T = record { came = came-more X.came len T; live = omega arith; ending = record { few = omega arith; empty = λ j l u. absurd (omega arith) } }
+    -- a place more is explored
+    pub exploring_on : {w₂ : List ℕ} {d : At} {end' : ℕ} → length w₂ ≡ length w₁ → Followed n ss ls k w₁ b w₂ d → Ending ls d.piece end' → Exploring n ss ls k w a w₂ d end'
+    exploring_on len F e = record { came = came-more X.came len F.progressed; live = F.live; ending = e }
 
     pub exploring_all : end ≤ b.place → Advanced n ss ls k w a w₁ (at b.size b.blocks b.stand b.piece 4)
     exploring_all le =
@@ -87,9 +87,3 @@ module _ {n : ℕ} {ss ls : List ℕ} {k : ℕ} {w : List ℕ} {a : At} (G : Und
 
 pub ending_four : {ls : List ℕ} {p : ℕ} → Ending ls p 4
 ending_four = record { few = omega arith; empty = λ j l u. absurd (omega arith) }
-
-pub ending_one : {ls : List ℕ} {p word : ℕ} → Four ls p word → one_at_most ≤ word → Ending ls p 1
-ending_one f h = record { few = omega arith; empty = λ j l u. f.rest h j u (omega arith) }
-
-pub ending_two : {ls : List ℕ} {p word : ℕ} → Four ls p word → two_at_most ≤ word → Ending ls p 2
-ending_two f h = record { few = omega arith; empty = λ j l u. f.last h j u (omega arith) }

@@ -1,5 +1,5 @@
 -- The next place of the search's piece is explored: it is passed, its target is pushed, or blocks are merged.
-use Rattle.std.specs.Prelude.{◌≡◌, refl, List, length}
+use Rattle.std.specs.Prelude.{◌≡◌, refl, List, length, slice_range}
 use Rattle.std.proofs.Common.{sym, ◌∙◌, arith, add-one, length-set}
 use Rattle.std.proofs.Math.Path.{ap, subst}
 use Prim.Native.Nat.{ℕ, suc, pred, ◌+◌, ◌-◌, ◌*◌, ◌≤◌, ◌<◌}
@@ -14,7 +14,7 @@ use Rattle.paths.specs.Moves.Bump.{bumped, bump}
 use Rattle.paths.specs.Moves.Push.{stack_room, blocks_few}
 use Rattle.paths.specs.Moves.Push as move
 use Rattle.paths.specs.Moves.Merge.{merge, merged_below}
-use Rattle.groups.specs.Layout.{part, tail, regions, moved, marks_get, part_length, put_next, tail_keeps}
+use Rattle.groups.specs.Layout.{part, tail, regions, moved, slice_get, slice_length, marks_get, part_length, put_next, tail_keeps}
 use Rattle.groups.specs.Stores.{height_pos, height_le, moved-one, moved_push, push_view, push_tail, bump_rest}
 use Rattle.groups.specs.Steps.{view, Positioned, UnderWay, Progressed, Stackable, stacked, Blocks, Cut}
 use Rattle.groups.specs.declared.At.{At}
@@ -42,6 +42,16 @@ module _ {n : ℕ} {ss ls : List ℕ} {k : ℕ} {w : List ℕ} {a : At} (G : Und
 
   pub blocks_n : a.blocks ≤ n
   blocks_n = omega (arith, size_n, blocks_few G.stands.inv.base.bounds)
+
+  -- where the blocks start
+  abbrev starts : List ℕ
+  starts = slice_range w (4 * n) (4 * n + a.blocks)
+
+  starts_length : length starts ≡ a.blocks
+  starts_length = slice_length w (omega arith) (omega (arith, blocks_n, G.lent.work_n)) ∙ omega arith
+
+  starts_get : (i : ℕ) → i < a.blocks → starts ! i ≡ part n (4 * n) w ! i
+  starts_get i lt = slice_get n (4 * n) w 0 i (omega arith) (omega arith) (omega (arith, blocks_n)) ∙ ap (λ (j : ℕ). part n (4 * n) w ! j) (omega arith)
 
   pub next-length : length (part n n w) ≡ n
   next-length = part_length n n w (omega (arith, G.lent.work_n))
@@ -106,11 +116,8 @@ module _ {n : ℕ} {ss ls : List ℕ} {k : ℕ} {w : List ℕ} {a : At} (G : Und
       tail_same = refl;
     }
 
-    pub step_past : n ≤ target → Progressed n ss ls k w a w (next_place a a.blocks)
-    step_past h = passing a.blocks (λ old root S. (S.inv, λ lt e i u v. absurd (omega arith)))
-
-    pub step_class : (ss ! target ≡ k → ⊥) → Progressed n ss ls k w a w (next_place a a.blocks)
-    step_class h = passing a.blocks (λ old root S. (S.inv, λ lt e i u v. absurd (h e)))
+    pub step_other : (target < n → ss ! target ≡ k → ⊥) → Progressed n ss ls k w a w (next_place a a.blocks)
+    step_other h = passing a.blocks (λ old root S. (S.inv, λ lt e i u v. absurd (h lt e)))
 
     module _ (y-n : target < n) where
       -- the mark of the target, as it is read
@@ -220,23 +227,22 @@ module _ {n : ℕ} {ss ls : List ℕ} {k : ℕ} {w : List ℕ} {a : At} (G : Und
               }
 
           -- the target is on the stack: the blocks that start above it are dropped
-          pub step_merge : (mark ≡ 0 → ⊥) → (mark ≡ finished_mark → ⊥) → {left : ℕ} → Cut n w a.blocks (mark - 1) left → Progressed n ss ls k w a w (next_place a left)
+          pub step_merge : (mark ≡ 0 → ⊥) → (mark ≡ finished_mark → ⊥) → {left : ℕ} → Cut starts (mark - 1) left → Progressed n ss ls k w a w (next_place a left)
           step_merge nz nf {left} K =
               passing left (λ old root S.
               let o = S.inv.base.stack.marks_stack target y-n (target_reached S) (λ e. nz (sym marked ∙ e)) (λ e. nf (sym marked ∙ e)) in
               let hit : Way g (part n (3 * n) w ! a.stand) (part n (3 * n) w ! o.0) =
               subst (λ (x : ℕ). Way g (part n (3 * n) w ! a.stand) x) (sym o.3) (way (S.piece_is G.live)) in
-              let low : part n (4 * n) w ! pred left ≤ o.0 = omega (arith, K.below, o.1, marked) in
-              let high : (i : ℕ) → left ≤ i → i < a.blocks → o.0 < part n (4 * n) w ! i = λ i x u. omega (arith, K.above i x u, o.1, marked) in (
-                merge S.inv G.live o.0 o.2 hit left K.some K.le low high,
-                λ u v i lt le. omega (arith, o.1, merged_below S.inv G.live o.0 o.2 hit left K.some K.le low high i lt),
+              let few : left ≤ a.blocks = omega (arith, K.le, starts_length) in
+              let low : part n (4 * n) w ! pred left ≤ o.0 = omega (arith, K.below, starts_get (pred left) (omega (arith, K.some)), o.1, marked) in
+              let high : (i : ℕ) → left ≤ i → i < a.blocks → o.0 < part n (4 * n) w ! i =
+              λ i x u. omega (arith, K.above i x (omega (arith, starts_length)), starts_get i u, o.1, marked) in (
+                merge S.inv G.live o.0 o.2 hit left K.some few low high,
+                λ u v i lt le. omega (arith, o.1, merged_below S.inv G.live o.0 o.2 hit left K.some few low high i lt),
               ))
 
-  pub blocks_ok : {position : ℕ} → Blocks n w a.blocks position
+  pub blocks_ok : {position : ℕ} → Blocks starts position
   blocks_ok = record {
-    most = G.lent.most;
-    work_n = G.lent.work_n;
-    some = blocks_some;
-    few = blocks_n;
-    base = omega (arith, G.stands.inv.base.bounds.base blocks_some);
+    some = omega (arith, starts_length, blocks_some);
+    base = omega (arith, starts_get 0 blocks_some, G.stands.inv.base.bounds.base blocks_some);
   }

@@ -4,13 +4,12 @@ use Rattle.std.proofs.Common.{sym, ◌∙◌, ap, subst, ⊎_elim, arith, sub-on
 use Rattle.rules.specs.Lists.{◌!◌}
 use Rattle.laws.specs.Numbers.{lt_or}
 use Rattle.paths.specs.Ground.{Ground, ground}
-use Rattle.paths.specs.Search.{finished_mark, Regions, Invariant, measure, height, rest}
+use Rattle.paths.specs.Search.{Regions, Invariant, measure, height, rest}
 use Rattle.paths.specs.Moves.Back.{back, stand_pos}
-use Rattle.paths.specs.Moves.Pop.{popped, pop, Closing, LowestOnStack}
+use Rattle.paths.specs.Moves.Pop.{popped, pop, Closing}
 use Rattle.groups.specs.Layout.{part, tail, regions, moved, part_get, part_length, put_next, tail_keeps}
 use Rattle.groups.specs.Stores.{height_pos, moved_same}
-use Rattle.groups.specs.Steps.{view, Positioned, UnderWay, Exhausted, Progressed, ClosedOff, Pieces, Resumable, Resumed}
-use Rattle.groups.specs.Loops.{low_first, close-none, close_more}
+use Rattle.groups.specs.Steps.{view, Positioned, UnderWay, Exhausted, Progressed, Standing, Closed, Resumable, Resumed}
 use Rattle.groups.specs.Explore.{stand_lt, size_n, blocks_some, blocks_n, place_is}
 use Rattle.groups.specs.declared.At.{At}
 
@@ -50,9 +49,6 @@ module _ {n : ℕ} {ss ls : List ℕ} {k : ℕ} {w : List ℕ} {a : At} (X : Exh
   I : Invariant g G.old G.root (regions n w₁) a.size a.blocks a.stand
   I = inv G.stands
 
-  pub pieces : Pieces n w₁ a.stand a.size
-  pieces = record { work_n = work_n; most = G.lent.most; size_le = size_le; stand_lt = st_size; piece = I.base.stack.stack_lt }
-
   full : {old : Regions} {root : ℕ} → Positioned n ss ls k old root w a → part n n w₁ ! (part n (3 * n) w₁ ! a.stand) ≡ 4
   full S =
       ap (λ (s : Regions). s.next ! (s.stack ! a.stand)) same ∙ ap (λ (x : ℕ). (view n w a).next ! x) (S.piece_is G.live) ∙ place_is G ∙ X.four
@@ -60,15 +56,11 @@ module _ {n : ℕ} {ss ls : List ℕ} {k : ℕ} {w : List ℕ} {a : At} (X : Exh
   stack_at : part n (3 * n) w₁ ! a.stand ≡ a.piece
   stack_at = ap (λ (s : Regions). s.stack ! a.stand) same ∙ G.stands.piece_is G.live
 
-  -- a block of one piece is led by it
-  one_low : a.stand + 1 ≡ a.size → LowestOnStack (part n (3 * n) w₁) a.stand a.size a.piece
-  one_low e = subst (λ (m : ℕ). LowestOnStack (part n (3 * n) w₁) a.stand m a.piece) e (low_first stack_at)
-
-  pub one_closed : a.stand + 1 ≡ a.size → {w₂ w₃ : List ℕ} → w₂ ≡ set w₁ a.piece finished_mark → w₃ ≡ set w₂ (2 * n + a.piece) a.piece
-      → ClosedOff n w₁ a.stand a.size a.piece w₃
-  one_closed e {w₃ = w₃} w₂-is w₃-is =
-      let x-is : a.piece ≡ w₁ ! (3 * n + a.stand) = sym stack_at ∙ part_get n (3 * n) w₁ a.stand (omega (arith, st_size, size_le)) in
-      subst (λ (m : ℕ). ClosedOff n w₁ a.stand m a.piece w₃) e (close_more pieces (omega arith) st_size refl close-none x-is w₂-is w₃-is)
+  pub standing : Standing n w₁ a
+  standing = record {
+    pieces = record { work_n = work_n; most = G.lent.most; size_le = size_le; stand_lt = st_size; piece = I.base.stack.stack_lt };
+    piece_is = stack_at;
+  }
 
   last_get : part n (4 * n) w₁ ! pred a.blocks ≡ w₁ ! (4 * n + (a.blocks - 1))
   last_get = part_get n (4 * n) w₁ (pred a.blocks) (omega (arith, some, blocks_le)) ∙ ap (λ (i : ℕ). w₁ ! (4 * n + i)) (sym (sub-one a.blocks))
@@ -156,9 +148,10 @@ module _ {n : ℕ} {ss ls : List ℕ} {k : ℕ} {w : List ℕ} {a : At} (X : Exh
 
       -- it starts the last block, which is finished
       module _ (starts : start ≡ a.stand) where
-        pub step_pop : {low : ℕ} → LowestOnStack (part n (3 * n) w₁) a.stand a.size low → {w₂ : List ℕ} → length w₂ ≡ length w₁
-            → ClosedOff n w₁ a.stand a.size low w₂ → {r : At} → Resumed n w₂ a.stand (a.blocks - 1) p r → Progressed n ss ls k w a w₂ r
-        step_pop {low} lowest {w₂} len₂ D R =
+        pub step_pop : {w₂ : List ℕ} → length w₂ ≡ length w₁ → Closed n w₁ a.stand a.size w₂ → {r : At} → Resumed n w₂ a.stand (a.blocks - 1) p r
+            → Progressed n ss ls k w a w₂ r
+        step_pop {w₂} len₂ C R =
+            let D = C.off in
             let s : Regions = popped (regions n w₁) (part n 0 w₂) (part n (2 * n) w₂) in
             let Q : s ≡ regions n w₂ =
             λ t. record {
@@ -169,7 +162,7 @@ module _ {n : ℕ} {ss ls : List ℕ} {k : ℕ} {w : List ℕ} {a : At} (X : Exh
               starts = sym D.starts_same t;
               parents = sym D.parents_same t;
             } in
-            let did : Closing g (part n 0 w₁) (part n (2 * n) w₁) (part n (3 * n) w₁) a.stand a.size low (part n 0 w₂) (part n (2 * n) w₂) = record {
+            let did : Closing g (part n 0 w₁) (part n (2 * n) w₁) (part n (3 * n) w₁) a.stand a.size C.low (part n 0 w₂) (part n (2 * n) w₂) = record {
               marks_len = part_length n 0 w₂ (omega (arith, work_n)) ∙ sym (part_length n 0 w₁ (omega (arith, work_n)));
               leaders_len = part_length n (2 * n) w₂ (omega (arith, work_n)) ∙ sym (part_length n (2 * n) w₁ (omega (arith, work_n)));
               hit = D.hit;
@@ -182,7 +175,7 @@ module _ {n : ℕ} {ss ls : List ℕ} {k : ℕ} {w : List ℕ} {a : At} (X : Exh
                   (subst (λ (s : Regions). Invariant g old root s a.stand (a.blocks - 1) p) Q
                   (subst (λ (m : ℕ). Invariant g old root s a.stand m p) (sym (sub-one a.blocks))
                   (subst (λ (m : ℕ). Invariant g old root s a.stand (pred a.blocks) m) parent_is
-                  (pop X.closed (inv S) G.live (full S) (last_get ∙ sym start_is ∙ starts) lowest did))));
+                  (pop X.closed (inv S) G.live (full S) (last_get ∙ sym start_is ∙ starts) C.lowest did))));
               less =
                   let q : rest (part n n w₂) n ≡ rest (part n n w₁) n = ap (λ (l : List ℕ). rest l n) D.next_same in
                   let m = measure-at w₂ D.stack_same R in
@@ -205,10 +198,3 @@ module _ {n : ℕ} {ss ls : List ℕ} {k : ℕ} {w : List ℕ} {a : At} (X : Exh
                   (lt_or 0 a.stand);
               tail_same = D.tail_same ∙ tail_one;
             }
-
-        -- a block of one piece
-        pub step_one : a.stand + 1 ≡ a.size → {w₂ w₃ : List ℕ} → w₂ ≡ set w₁ a.piece finished_mark → w₃ ≡ set w₂ (2 * n + a.piece) a.piece
-            → {r : At} → Resumed n w₃ a.stand (a.blocks - 1) p r → Progressed n ss ls k w a w₃ r
-        step_one e {w₂} w₂-is w₃-is R =
-            step_pop (one_low e) (ap length w₃-is ∙ length-set w₂ (2 * n + a.piece) a.piece ∙ ap length w₂-is ∙ length-set w₁ a.piece finished_mark)
-            (one_closed e w₂-is w₃-is) R

@@ -1,6 +1,6 @@
 -- The work as six regions: what a read and a store at an offset are of the regions.
-use Rattle.std.specs.Prelude.{◌≡◌, refl, List, ℕ, ◌+◌, ◌-◌, ◌*◌, ◌≤◌, ◌<◌, length, set, take, drop}
-use Rattle.std.proofs.Common.{◌∙◌, ap, arith, length-drop, drop-set-lt, get_or-take, get_or-drop, length-take-le}
+use Rattle.std.specs.Prelude.{◌≡◌, refl, List, ℕ, ◌+◌, ◌-◌, ◌*◌, ◌≤◌, ◌<◌, length, set, take, drop, slice_range}
+use Rattle.std.proofs.Common.{sym, ◌∙◌, ap, arith, length-drop, drop-set-lt, get_or-take, get_or-drop, length-take-le}
 use Rattle.std.proofs.lemmas.List.{drop-set-add, take-set-le}
 use Rattle.std.proofs.Math.Seq.{take-set-lt}
 use Rattle.rules.specs.Lists.{◌!◌}
@@ -55,6 +55,15 @@ part_length n o w h = length-take-le n (drop o w) (simp length-drop (omega arith
 pub part_get : (n o : ℕ) (w : List ℕ) (i : ℕ) → i < n → part n o w ! i ≡ w ! (o + i)
 unfolding part
 part_get n o w i h = get_or-take n (drop o w) i 0 h ∙ get_or-drop o w i 0
+
+-- entries of the region as a slice of the work, from its entry a on
+pub slice_get : (n o : ℕ) (w : List ℕ) {from to : ℕ} (a i : ℕ) → from ≡ o + a → from + i < to → to ≤ o + n → slice_range w from to ! i ≡ part n o w ! (a + i)
+slice_get n o w {from} {to} a i e lt le =
+    get_or-take (to - from) (drop from w) i 0 (omega arith) ∙ get_or-drop from w i 0 ∙
+    ap (λ (j : ℕ). w ! j) (omega arith) ∙ sym (part_get n o w (a + i) (omega arith))
+
+pub slice_length : (w : List ℕ) {from to : ℕ} → from ≤ to → to ≤ length w → length (slice_range w from to) ≡ to - from
+slice_length w {from} {to} le h = length-take-le (to - from) (drop from w) (simp length-drop (omega arith))
 
 -- the marks are the first entries
 pub marks_get : (n : ℕ) (w : List ℕ) (i : ℕ) → i < n → part n 0 w ! i ≡ w ! i

@@ -10,3 +10,4 @@ pub mod Whole
 pub mod Grouped
 pub mod Root
 pub mod Roots
+pub mod Class

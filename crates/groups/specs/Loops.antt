@@ -1,53 +1,45 @@
 -- The three loops: dropping block starts, the lowest piece of a block, finishing a block.
-use Rattle.std.specs.Prelude.{◌≡◌, refl, List, ℕ, pred, ◌+◌, ◌-◌, ◌*◌, ◌≤◌, ◌<◌, length, set}
+use Rattle.std.specs.Prelude.{◌≡◌, refl, List, ℕ, pred, ◌+◌, ◌-◌, ◌*◌, ◌≤◌, ◌<◌, length, set, min, slice_range}
 use Rattle.std.proofs.Common.{sym, ◌∙◌, ap, subst, ⊎_elim, arith, get_or-set_other}
 use Rattle.rules.specs.Lists.{◌!◌}
 use Rattle.laws.specs.Numbers.{lt_or, set_cases}
 use Rattle.paths.specs.Search.{finished_mark, Regions}
 use Rattle.paths.specs.Moves.Pop.{LowestOnStack}
-use Rattle.groups.specs.Layout.{regions, with_marks, with_leaders, part, part_get, part_length, put_marks, put_leaders, tail_keeps}
-use Rattle.groups.specs.Steps.{Blocks, Cut, ClosedOff, Pieces}
+use Rattle.groups.specs.Layout.{regions, with_marks, with_leaders, part, part_get, slice_get, slice_length, part_length, put_marks, put_leaders, tail_keeps}
+use Rattle.groups.specs.Steps.{Blocks, Cut, ClosedOff, Pieces, Standing, Closed, closed_one}
+use Rattle.groups.specs.declared.At.{At}
 
 -- the blocks from b on start above the position
-pub record Cutting (n : ℕ) (w : List ℕ) (blocks position b : ℕ) : Type 0 where
+pub record Cutting (starts : List ℕ) (position b : ℕ) : Type 0 where
   pub some : 0 < b
-  pub le : b ≤ blocks
-  pub above : (i : ℕ) → b ≤ i → i < blocks → position < part n (4 * n) w ! i
+  pub le : b ≤ length starts
+  pub above : (i : ℕ) → b ≤ i → i < length starts → position < starts ! i
 
-module _ {n : ℕ} {w : List ℕ} {blocks position : ℕ} (B : Blocks n w blocks position) where
-  pub cut_start : Cutting n w blocks position blocks
-  cut_start = record { some = B.some; le = omega arith; above = λ i a b. absurd (omega arith) }
+module _ {starts : List ℕ} {position b : ℕ} (I : Cutting starts position b) where
+  -- the last block starts above the position
+  pub cut-more : 1 < b → position < starts ! (b - 1) → Cutting starts position (b - 1)
+  cut-more more lt = record {
+    some = omega arith;
+    le = omega (arith, I.le);
+    above = λ i a u.
+        ⊎_elim
+        (λ h. I.above i (omega arith) u)
+        (λ h. let z : i ≡ b - 1 = omega arith in omega (arith, ap (λ (i : ℕ). starts ! i) z))
+        (lt_or (b - 1) i);
+  }
 
-  module _ {b start : ℕ} (I : Cutting n w blocks position b) (start_is : start ≡ w ! (4 * n + (b - 1))) where
-    start_of : part n (4 * n) w ! (b - 1) ≡ w ! (4 * n + (b - 1))
-    start_of = part_get n (4 * n) w (b - 1) (omega (arith, I.some, I.le, B.few))
+  -- it does not
+  pub cut_done : {left : ℕ} → left ≡ b → starts ! (b - 1) ≤ position → Cut starts position left
+  cut_done {left} e h = record {
+    some = omega (arith, I.some);
+    le = omega (arith, I.le);
+    below = let z : pred left ≡ b - 1 = omega arith in omega (arith, ap (λ (i : ℕ). starts ! i) z);
+    above = λ i a u. I.above i (omega arith) u;
+  }
 
-    -- the last block starts above the position
-    pub cut-more : position < start → Cutting n w blocks position (b - 1)
-    cut-more lt = record {
-      some =
-          ⊎_elim
-          (λ h. h)
-          (λ h.
-          let z : b - 1 ≡ 0 = omega arith in
-          absurd (omega (arith, ap (λ (i : ℕ). part n (4 * n) w ! i) z, start_of, B.base)))
-          (lt_or 0 (b - 1));
-      le = omega (arith, I.le);
-      above = λ i a u.
-          ⊎_elim
-          (λ h. I.above i (omega arith) u)
-          (λ h. let z : i ≡ b - 1 = omega arith in omega (arith, ap (λ (i : ℕ). part n (4 * n) w ! i) z, start_of))
-          (lt_or (b - 1) i);
-    }
-
-    -- it does not
-    pub cut_done : start ≤ position → Cut n w blocks position b
-    cut_done h = record {
-      some = I.some;
-      le = I.le;
-      below = let z : pred b ≡ b - 1 = omega arith in omega (arith, ap (λ (i : ℕ). part n (4 * n) w ! i) z, start_of);
-      above = I.above;
-    }
+  -- one block is left
+  pub cut_first : Blocks starts position → b ≤ 1 → Cut starts position 1
+  cut_first B h = record { some = omega arith; le = omega (arith, B.some); below = B.base; above = λ i a u. I.above i (omega arith) u }
 
 -- ---- the lowest piece
 
@@ -60,31 +52,53 @@ low_first {stack} {stand} is = record {
   least = λ q a b. let e : q ≡ stand = omega arith in omega (arith, ap (λ (i : ℕ). stack ! i) e);
 }
 
-module _ {stack : List ℕ} {stand q low piece : ℕ} (L : LowestOnStack stack stand q low) (piece_is : stack ! q ≡ piece) where
-  last : (p : ℕ) → q ≤ p → p < q + 1 → stack ! p ≡ piece
-  last p a b = let e : p ≡ q = omega arith in ap (λ (i : ℕ). stack ! i) e ∙ piece_is
+-- one position more
+pub low_min : {stack : List ℕ} {stand q low q' low' : ℕ} → LowestOnStack stack stand q low → q' ≡ q + 1 → low' ≡ min low (stack ! q) → LowestOnStack stack stand q' low'
+low_min {stack} {stand} {q} {low} {q'} L q'-is low'-is =
+    let piece : ℕ = stack ! q in
+    let last : (p : ℕ) → q ≤ p → p < q' → stack ! p ≡ piece =
+    λ p a b. let e : p ≡ q = omega arith in ap (λ (i : ℕ). stack ! i) e in
+    ⊎_elim
+    (λ h. record {
+      place = q;
+      from_stand = omega (arith, L.from_stand, L.to_size);
+      to_size = omega arith;
+      is = omega arith;
+      least = λ p a b. ⊎_elim (λ u. omega (arith, L.least p a u)) (λ u. omega (arith, last p u b)) (lt_or p q);
+    })
+    (λ h. record {
+      place = L.place;
+      from_stand = L.from_stand;
+      to_size = omega (arith, L.to_size);
+      is = omega (arith, L.is);
+      least = λ p a b. ⊎_elim (λ u. omega (arith, L.least p a u)) (λ u. omega (arith, last p u b)) (lt_or p q);
+    })
+    (lt_or piece low)
 
-  pub low_keep : {low' : ℕ} → low ≤ piece → low' ≡ low → LowestOnStack stack stand (q + 1) low'
-  low_keep h e = record {
-    place = L.place;
-    from_stand = L.from_stand;
-    to_size = omega (arith, L.to_size);
-    is = L.is ∙ sym e;
-    least = λ p a b. ⊎_elim (λ u. omega (arith, L.least p a u)) (λ u. omega (arith, last p u b)) (lt_or p q);
+-- the pieces from a position up, as they are read
+module _ {n : ℕ} {w : List ℕ} {stand size : ℕ} (P : Pieces n w stand size) where
+  abbrev above : List ℕ
+  above = slice_range w (3 * n + stand) (3 * n + size)
+
+  above_length : length above ≡ size - stand
+  above_length = slice_length w (omega (arith, P.stand_lt)) (omega (arith, P.size_le, P.work_n)) ∙ omega arith
+
+  above_get : (i : ℕ) → stand + i < size → above ! i ≡ part n (3 * n) w ! (stand + i)
+  above_get i lt = slice_get n (3 * n) w stand i refl (omega arith) (omega (arith, P.size_le))
+
+  pub low_some : 0 < length above
+  low_some = omega (arith, above_length, P.stand_lt)
+
+  pub low_stack : {low : ℕ} → LowestOnStack above 0 (length above) low → LowestOnStack (part n (3 * n) w) stand size low
+  low_stack L = record {
+    place = stand + L.place;
+    from_stand = omega arith;
+    to_size = omega (arith, L.to_size, above_length);
+    is = sym (above_get L.place (omega (arith, L.to_size, above_length))) ∙ L.is;
+    least = λ q a b.
+        let e : stand + (q - stand) ≡ q = omega arith in
+        omega (arith, L.least (q - stand) (omega arith) (omega (arith, above_length)), above_get (q - stand) (omega arith), ap (λ (j : ℕ). part n (3 * n) w ! j) e);
   }
-
-  pub low_take : {low' : ℕ} → piece < low → low' ≡ piece → LowestOnStack stack stand (q + 1) low'
-  low_take h e = record {
-    place = q;
-    from_stand = omega (arith, L.from_stand, L.to_size);
-    to_size = omega arith;
-    is = piece_is ∙ sym e;
-    least = λ p a b. ⊎_elim (λ u. omega (arith, L.least p a u)) (λ u. omega (arith, last p u b)) (lt_or p q);
-  }
-
--- the piece at a position, as it is read
-pub piece_at_lem : {n : ℕ} {w : List ℕ} {stand size q piece : ℕ} → Pieces n w stand size → q < size → piece ≡ w ! (3 * n + q) → part n (3 * n) w ! q ≡ piece
-piece_at_lem {n} {w} {q = q} P lt e = part_get n (3 * n) w q (omega (arith, P.size_le)) ∙ sym e
 
 -- ---- finishing a block
 
@@ -159,3 +173,14 @@ module _ {n : ℕ} {w : List ℕ} {stand size low q : ℕ} {w' : List ℕ} (P : 
   -- the mark and the leader of one piece more, as they are stored
   pub close_more : {w₁ w₂ : List ℕ} → w₁ ≡ set w' x finished_mark → w₂ ≡ set w₁ (2 * n + x) low → ClosedOff n w stand (q + 1) low w₂
   close_more e f = subst (λ (u : List ℕ). ClosedOff n w stand (q + 1) low u) (sym (f ∙ ap (λ (u : List ℕ). set u (2 * n + x) low) e)) closed_two
+
+-- a block of one piece, which leads it
+pub closed_alone : {n : ℕ} {w : List ℕ} {a : At} → Standing n w a → a.stand + 1 ≡ a.size → {w' : List ℕ} → w' ≡ closed_one n w a.piece → Closed n w a.stand a.size w'
+closed_alone {n} {w} {a} S e {w'} w'-is =
+    let P = S.pieces in
+    let x-is : a.piece ≡ w ! (3 * n + a.stand) = sym S.piece_is ∙ part_get n (3 * n) w a.stand (omega (arith, P.stand_lt, P.size_le)) in
+    subst (λ (m : ℕ). Closed n w a.stand m w') e (record {
+      low = a.piece;
+      lowest = low_first S.piece_is;
+      off = close_more P (omega arith) P.stand_lt refl close-none x-is refl w'-is;
+    })

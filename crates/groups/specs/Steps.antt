@@ -4,6 +4,7 @@ use Rattle.rules.specs.Limits.{none}
 use Rattle.rules.specs.Lists.{◌!◌}
 use Rattle.paths.specs.Ground.{ground, OneWay, Reached}
 use Rattle.paths.specs.Search.{finished_mark, Regions, Invariant, Calm, Visited, measure}
+use Rattle.paths.specs.Moves.Pop.{LowestOnStack}
 use Rattle.groups.specs.Layout.{part, tail, regions, moved}
 use Rattle.groups.specs.declared.At.{At}
 
@@ -45,6 +46,12 @@ pub record Progressed (n : ℕ) (states links : List ℕ) (class : ℕ) (w : Lis
   pub less : measure n (view n w' a') a'.size a'.stand < measure n (view n w a) a.size a.stand
   pub tail_same : tail n w' ≡ tail n w
 
+-- one place is explored: the search stands at the same piece, or at the first place of one that is pushed
+pub record Followed (n : ℕ) (states links : List ℕ) (class : ℕ) (w : List ℕ) (a : At) (w' : List ℕ) (a' : At) : Type 0 where
+  pub progressed : Progressed n states links class w a w' a'
+  pub live : 0 < a'.size
+  pub same : (a'.place ≡ 0 → ⊥) → a'.piece ≡ a.piece
+
 -- some places are explored, or none
 pub record Came (n : ℕ) (states links : List ℕ) (class : ℕ) (w : List ℕ) (a : At) (w' : List ℕ) (a' : At) : Type 0 where
   pub len : length w' ≡ length w
@@ -77,19 +84,16 @@ abbrev pub stacked : ℕ → List ℕ → ℕ → ℕ → ℕ → ℕ → List �
 stacked n w size blocks stand piece = set (set (set (set w piece (size + 1)) (3 * n + size) piece) (4 * n + blocks) size) (5 * n + size) stand
 
 -- there is a block, and the first starts at or below the position
-pub record Blocks (n : ℕ) (w : List ℕ) (blocks position : ℕ) : Type 0 where
-  pub most : n ≤ 1024
-  pub work_n : 6 * n ≤ length w
-  pub some : 0 < blocks
-  pub few : blocks ≤ n
-  pub base : part n (4 * n) w ! 0 ≤ position
+pub record Blocks (starts : List ℕ) (position : ℕ) : Type 0 where
+  pub some : 0 < length starts
+  pub base : starts ! 0 ≤ position
 
 -- the number of blocks left when those that start above the position are dropped
-pub record Cut (n : ℕ) (w : List ℕ) (blocks position left : ℕ) : Type 0 where
+pub record Cut (starts : List ℕ) (position left : ℕ) : Type 0 where
   pub some : 0 < left
-  pub le : left ≤ blocks
-  pub below : part n (4 * n) w ! pred left ≤ position
-  pub above : (i : ℕ) → left ≤ i → i < blocks → position < part n (4 * n) w ! i
+  pub le : left ≤ length starts
+  pub below : starts ! pred left ≤ position
+  pub above : (i : ℕ) → left ≤ i → i < length starts → position < starts ! i
 
 -- every piece on the stack is a piece
 pub record Pieces (n : ℕ) (w : List ℕ) (stand size : ℕ) : Type 0 where
@@ -110,6 +114,17 @@ pub record ClosedOff (n : ℕ) (w : List ℕ) (stand size low : ℕ) (w' : List 
   pub starts_same : part n (4 * n) w' ≡ part n (4 * n) w
   pub parents_same : part n (5 * n) w' ≡ part n (5 * n) w
   pub tail_same : tail n w' ≡ tail n w
+
+-- the search's piece stands on the stack
+pub record Standing (n : ℕ) (w : List ℕ) (a : At) : Type 0 where
+  pub pieces : Pieces n w a.stand a.size
+  pub piece_is : part n (3 * n) w ! a.stand ≡ a.piece
+
+-- they are finished, with the lowest of them as leader
+pub record Closed (n : ℕ) (w : List ℕ) (stand size : ℕ) (w' : List ℕ) : Type 0 where
+  pub low : ℕ
+  pub lowest : LowestOnStack (part n (3 * n) w) stand size low
+  pub off : ClosedOff n w stand size low w'
 
 -- a piece is finished as a group of its own
 abbrev pub closed_one : ℕ → List ℕ → ℕ → List ℕ

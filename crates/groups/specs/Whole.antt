@@ -10,7 +10,7 @@ use Rattle.paths.specs.Moves.Push as move
 use Rattle.paths.specs.Moves.Whole.{begins, finishes}
 use Rattle.groups.specs.Layout.{part, tail, regions, marks_get, sizes}
 use Rattle.groups.specs.Stores.{moved_same, push_view, push_tail}
-use Rattle.groups.specs.Steps.{Lent, Positioned, UnderWay, Progressed, stacked, Stackable, Started, Searched}
+use Rattle.groups.specs.Steps.{Lent, Positioned, UnderWay, stacked, Started, Searched}
 use Rattle.groups.specs.declared.At.{At}
 
 -- the search at its root
@@ -29,17 +29,6 @@ pub record Searching (n : ℕ) (ss ls : List ℕ) (k : ℕ) (w₀ : List ℕ) (r
 pub going : {n : ℕ} {ss ls : List ℕ} {k : ℕ} {w₀ : List ℕ} {root : ℕ} {w : List ℕ} {a : At} → Searching n ss ls k w₀ root w a → 0 < a.size → UnderWay n ss ls k w a
 going {root = root} Q pos = record { lent = Q.lent; live = pos; old = Q.old; root = root; stands = Q.stands Q.old Q.began }
 
-pub searching_step : {n : ℕ} {ss ls : List ℕ} {k : ℕ} {w₀ : List ℕ} {root : ℕ} {w : List ℕ} {a : At} {w' : List ℕ} {a' : At} → Searching n ss ls k w₀ root w a
-    → length w' ≡ length w → Progressed n ss ls k w a w' a' → Searching n ss ls k w₀ root w' a'
-searching_step {root = root} Q len T = record {
-  lent = record { most = Q.lent.most; states_n = Q.lent.states_n; links_n = Q.lent.links_n; work_n = omega (arith, len, Q.lent.work_n) };
-  len = len ∙ Q.len;
-  old = Q.old;
-  began = Q.began;
-  stands = λ old S. T.stands old root (Q.stands old S);
-  tail_same = T.tail_same ∙ Q.tail_same;
-}
-
 module _ {n : ℕ} {ss ls : List ℕ} {k : ℕ} {w : List ℕ} {root : ℕ} (S : Started n ss ls k w root) where
   abbrev g : Ground
   g = ground n ss ls k
@@ -49,16 +38,6 @@ module _ {n : ℕ} {ss ls : List ℕ} {k : ℕ} {w : List ℕ} {root : ℕ} (S :
 
   root_get : part n 0 w ! root ≡ w ! root
   root_get = marks_get n w root S.root_lt
-
-  pub root_stackable : Stackable n w 0 0 0 root
-  root_stackable = record {
-    most = S.lent.most;
-    work_n = S.lent.work_n;
-    size_lt = omega (arith, S.root_lt);
-    blocks_lt = omega (arith, S.root_lt);
-    stand_lt = omega (arith, S.root_lt);
-    piece_lt = S.root_lt;
-  }
 
   module _ {mark : ℕ} (mark-is : mark ≡ w ! root) (zero-mark : mark ≡ 0) {w₀ : List ℕ} (w₀-is : w₀ ≡ stacked n w 0 0 0 root) where
     unseen : part n 0 w ! root ≡ 0

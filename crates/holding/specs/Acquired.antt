@@ -1,5 +1,5 @@
 -- Acquire, over the areas that it touches: what it asks, and what it did in every sound store that has these areas.
-use Rattle.std.specs.Prelude.{◌≡◌, refl, Bool, true, false, not, List, [], ℕ, ◌+◌, ◌≤◌, ◌<◌, T, eqb, length, set}
+use Rattle.std.specs.Prelude.{◌≡◌, refl, Bool, true, false, not, List, [], ℕ, ◌+◌, ◌≤◌, ◌<◌, T, eqb, length, set, Err}
 use Rattle.std.proofs.Common.{◌∙◌, subst, ⊎_elim, arith}
 use Rattle.rules.specs.Tests.{◌&◌}
 use Rattle.rules.specs.Lists.{◌!◌}
@@ -9,8 +9,6 @@ use Rattle.rules.specs.Commands.{no_line, with_holds}
 use Rattle.rules.specs.Calls.{answered, effect, fresh, ReadyStore, Did}
 use Rattle.rules.specs.declared.Refusal.TheVariants.{Limit, Register}
 use Rattle.rules.specs.declared.Command.TheVariants.{Acquire}
-use Rattle.rules.specs.declared.Answer.{Answer}
-use Rattle.rules.specs.declared.Answer.TheVariants.{Refused}
 use Rattle.laws.specs.Numbers.{lt_or}
 use Rattle.laws.specs.Calls.{ready_tables}
 use Rattle.laws.specs.Seated.{acquire_adds, acquire_itself, any_acquire, refused_tables, refused_line, done_more}
@@ -18,6 +16,7 @@ use Rattle.naming.specs.Told.{NamedPiece}
 use Rattle.register.specs.Room.{Room}
 use Rattle.register.specs.Kept.{right_ranged}
 use Rattle.editing.specs.Holds.{leader_in, acquire_limit, acquire_accepted, acquired}
+use Rattle.rules.specs.Replies.{Answer}
 
 -- the areas have their lengths, a frozen piece's leader has a count with room for one more, and the register is right
 pub record Acquiring (n : ℕ) (states leaders holds counts register : List ℕ) : Type 0 where
@@ -97,13 +96,13 @@ module _ {n p seat : ℕ} {states links leaders holds counts register : List ℕ
     (sits : seat < 32) (named : NamedPiece n states p) (other : states ! p ≡ 1 → ⊥) where
   -- it has 1,000 holds
   pub limited : 1000 ≤ holds ! p → Did (Acquire p seat) (store_by (tables_of n states links leaders holds counts) register) []
-      (effect (answered (Refused Limit)) (store_by (tables_of n states links leaders holds counts) register) [])
+      (effect (answered (Err Limit)) (store_by (tables_of n states links leaders holds counts) register) [])
   limited full = refused_tables acquire_adds.seat acquire_itself sits (any_acquire (acquire_limit (ready_tables ready) named other full))
 
   -- no line is free
   pub crowded : {r : Bool} → holds ! p < 1000 → not r ≡ true → r ≡ not (eqb (held_by register seat p) 0 & is_full register)
       → Did (Acquire p seat) (store_by (tables_of n states links leaders holds counts) register) []
-      (effect (answered (Refused Register)) (store_by (tables_of n states links leaders holds counts) register) [])
+      (effect (answered (Err Register)) (store_by (tables_of n states links leaders holds counts) register) [])
   unfolding no_line
   crowded {r} few none said =
       refused_line acquire_adds acquire_itself sits (acquire_accepted (ready_tables ready) named other few seat) (none_said r (no_line register seat p) none said)

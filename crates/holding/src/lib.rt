@@ -1,4 +1,5 @@
 // Acquire and release by a seat, on a sound store: one hold more or less.
+// The areas come one by one: some are read and some are written, and a struct of `&mut` slices would need a clause for each that it stays the same slice.
 #![tactic(auto)]
 
 ghost use Rattle.std.specs.Prelude.{◌≡◌, ◌+◌, ◌≤◌, length, set};
@@ -10,8 +11,7 @@ ghost use Rattle.editing.specs.Verdicts.{Worked};
 ghost use Rattle.editing.specs.Holds.{Releasing};
 ghost use Rattle.holding.specs.Acquired.{Acquiring, Acquired, OneMore};
 
-use naming::Name;
-use rules::{Answer, Refusal, Store};
+use rules::{Answer, Done, Refusal, Store};
 
 // One hold more on frozen p, and one more in its leader's count.
 pub fn add_hold(n: usize, leaders: &[u16], holds: &mut [u16], counts: &mut [u32], p: usize)
@@ -40,22 +40,19 @@ pub fn acquire(
         holds.new counts.new register.new }
 {
     if Store::SEATS <= seat {
-        return Answer::Refused(Refusal::Seat);
+        return Err(Refusal::Seat);
     }
-    match naming::piece(n, states, p) {
-        Name::Wrong(refusal) => return Answer::Refused(refusal),
-        Name::Right => {}
-    }
+    naming::piece(n, states, p)?;
     let at = p as usize;
     if states[at] == Store::DRAFT {
-        return Answer::Refused(Refusal::State);
+        return Err(Refusal::State);
     }
     if holds[at] >= Store::HOLDS {
-        return Answer::Refused(Refusal::Limit);
+        return Err(Refusal::Limit);
     }
     let line = register::find(register, seat, p);
     if !register::has_room(register, line, seat, p) {
-        return Answer::Refused(Refusal::Register);
+        return Err(Refusal::Register);
     }
     add_hold(n, leaders, holds, counts, at);
     register::more(register, line, seat, p);
@@ -108,27 +105,24 @@ pub fn release(
         list.new) }
 {
     if Store::SEATS <= seat {
-        return Answer::Refused(Refusal::Seat);
+        return Err(Refusal::Seat);
     }
-    match naming::piece(n, states, p) {
-        Name::Wrong(refusal) => return Answer::Refused(refusal),
-        Name::Right => {}
-    }
+    naming::piece(n, states, p)?;
     let at = p as usize;
     if states[at] == Store::DRAFT {
-        return Answer::Refused(Refusal::State);
+        return Err(Refusal::State);
     }
     if holds[at] == 0 {
-        return Answer::Refused(Refusal::NotHeld);
+        return Err(Refusal::NotHeld);
     }
     let line = register::find(register, seat, p);
     if register::number_at(register, line, seat, p) == 0 {
-        return Answer::Refused(Refusal::NotYours);
+        return Err(Refusal::NotYours);
     }
     let freed = let_hold_go(n, states, links, leaders, holds, counts, list, at) as u16;
     register::less(register, line, seat, p);
-    Answer::Done {
+    Ok(Done {
         value: Store::NONE,
         freed,
-    }
+    })
 }

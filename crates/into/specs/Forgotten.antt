@@ -84,16 +84,6 @@ module _ {n : ℕ} {states links into : List ℕ} {p : ℕ} (g : Forgetting n st
           own = f.own p refl g.below ∙ a.own;
         }
 
-  -- the first of them
-  first_place : links ! (4 * p + 0) ≡ links ! (4 * p)
-  first_place = let e : 4 * p + 0 ≡ 4 * p = omega arith in ap (λ (i : ℕ). links ! i) e
-
-  pub forgetting_first : Takable n states into p (links ! (4 * p))
-  forgetting_first = subst (Takable n states into p) first_place (forgetting_place (omega arith) forgotten_none)
-
-  pub forgotten_first : {into₁ : List ℕ} → Less n states p (links ! (4 * p)) into into₁ → Forgotten n states links into p 1 into₁
-  forgotten_first {into₁} l = forgotten_more (omega arith) forgotten_none (subst (λ (t : ℕ). Less n states p t into into₁) (sym first_place) l)
-
 -- a draft that nobody else names goes, and its places are empty
 pub into_gone : {n : ℕ} {states links into : List ℕ} {p : ℕ} → Into n states links into → p < length states → into ! p ≡ 0 → Into n (set states p 0) links into
 into_gone {states = states} {into = into} {p = p} x h z = record {

@@ -1,5 +1,5 @@
 -- One link place goes to another target, and the links into each draft follow.
-use Rattle.std.specs.Prelude.{◌≡◌, refl, List, ℕ, ◌+◌, ◌-◌, ◌*◌, ◌/◌, ◌≤◌, ◌<◌, length, set}
+use Rattle.std.specs.Prelude.{◌≡◌, refl, Bool, true, false, List, ℕ, ◌+◌, ◌-◌, ◌*◌, ◌/◌, ◌≤◌, ◌<◌, length, set}
 use Rattle.std.proofs.Common.{sym, ap, ap₂, ◌∙◌, subst, ⊎_elim, arith, length-set}
 use Rattle.rules.specs.Lists.{◌!◌}
 use Rattle.laws.specs.Numbers.{eq_or, set_cases}
@@ -32,67 +32,64 @@ pub record Less (n : ℕ) (states : List ℕ) (r t : ℕ) (into into' : List ℕ
   pub drafts : (q : ℕ) → q < n → states ! q ≡ 1 → into' ! q + hit q r t ≡ into ! q
   pub others : (q : ℕ) → q < n → (states ! q ≡ 1 → ⊥) → into' ! q ≡ into ! q
 
--- t is no other draft: nothing is counted
-record Apart (n : ℕ) (states : List ℕ) (r t : ℕ) : Type 0 where
-  pub misses : (q : ℕ) → q < n → states ! q ≡ 1 → hit q r t ≡ 0
+-- t is another draft than r
+abbrev pub OtherDraft : ℕ → List ℕ → ℕ → ℕ → Type 0
+OtherDraft n states r t = (t < n) × (t ≡ r → ⊥) × (states ! t ≡ 1)
 
-module _ {n : ℕ} {states : List ℕ} {r t : ℕ} where
-  apart_past : n ≤ t → Apart n states r t
-  apart_past h = record { misses = λ q l _. hit_off q r t (λ e. omega arith) }
+-- b says whether it is
+pub record Counting (n : ℕ) (states : List ℕ) (r t : ℕ) (b : Bool) : Type 0 where
+  pub yes : b ≡ true → OtherDraft n states r t
+  pub no : b ≡ false → OtherDraft n states r t → ⊥
 
-  apart_own : t ≡ r → Apart n states r t
-  apart_own e = record { misses = λ q l _. ⊎_elim (λ y. hit_own q r t (sym e ∙ y)) (λ f. hit_off q r t f) (eq_or t q) }
-
-  apart_other : (states ! t ≡ 1 → ⊥) → Apart n states r t
-  apart_other f = record { misses = λ q l d. hit_off q r t (λ e. f (ap (λ (x : ℕ). states ! x) e ∙ d)) }
+-- else nothing is counted
+misses : {n r t : ℕ} (states : List ℕ) → (OtherDraft n states r t → ⊥) → (q : ℕ) → q < n → states ! q ≡ 1 → hit q r t ≡ 0
+misses {n} {r} {t} states f q l d =
+    ⊎_elim
+    (λ e. ⊎_elim (λ o. hit_own q r t (sym o ∙ e)) (λ o. absurd (f (subst (λ (x : ℕ). x < n) (sym e) l, o, ap (λ (x : ℕ). states ! x) e ∙ d))) (eq_or t r))
+    (λ g. hit_off q r t g)
+    (eq_or t q)
 
 module _ {n : ℕ} {states into : List ℕ} {r t : ℕ} where
-  more-none : Apart n states r t → More n states r t into into
-  more-none a = record { size = refl; drafts = λ q l d. omega (arith, a.misses q l d); others = λ q l f. refl }
+  more_off : (OtherDraft n states r t → ⊥) → More n states r t into into
+  more_off f = record { size = refl; drafts = λ q l d. omega (arith, misses states f q l d); others = λ q l g. refl }
 
-  less_none : Apart n states r t → Less n states r t into into
-  less_none a = record { size = refl; drafts = λ q l d. omega (arith, a.misses q l d); others = λ q l f. refl }
+  pub more-none : Counting n states r t false → More n states r t into into
+  more-none v = more_off (v.no refl)
+
+  pub less_none : Counting n states r t false → Less n states r t into into
+  less_none v = record { size = refl; drafts = λ q l d. omega (arith, misses states (v.no refl) q l d); others = λ q l g. refl }
 
   pub more_past : n ≤ t → More n states r t into into
-  more_past h = more-none (apart_past h)
+  more_past h = more_off (λ o. omega (arith, o.0))
 
-  pub more_own : t ≡ r → More n states r t into into
-  more_own e = more-none (apart_own e)
-
-  pub more_other : (states ! t ≡ 1 → ⊥) → More n states r t into into
-  more_other f = more-none (apart_other f)
-
-  pub less_past : n ≤ t → Less n states r t into into
-  less_past h = less_none (apart_past h)
-
-  pub less_own : t ≡ r → Less n states r t into into
-  less_own e = less_none (apart_own e)
-
-  pub less_other : (states ! t ≡ 1 → ⊥) → Less n states r t into into
-  less_other f = less_none (apart_other f)
-
-  module _ (z : length into ≡ n) (h : t < n) (d : states ! t ≡ 1) (f : t ≡ r → ⊥) where
-    pub more-one : More n states r t into (set into t (into ! t + 1))
-    more-one = record {
+  module _ (z : length into ≡ n) (o : OtherDraft n states r t) where
+    more_at : More n states r t into (set into t (into ! t + 1))
+    more_at = record {
       size = length-set into t (into ! t + 1);
       drafts = λ q l _.
           ⊎_elim
-          (λ w. omega (arith, w.1, ap (λ (x : ℕ). into ! x) w.0, hit_on q r t (sym w.0) (λ y. f (sym w.0 ∙ sym y))))
+          (λ w. omega (arith, w.1, ap (λ (x : ℕ). into ! x) w.0, hit_on q r t (sym w.0) (λ y. o.1 (sym w.0 ∙ sym y))))
           (λ w. omega (arith, w.1, hit_off q r t (λ y. w.0 (sym y))))
-          (set_cases into t (into ! t + 1) q 0 (omega arith));
-      others = λ q l g. ⊎_elim (λ w. absurd (g (ap (λ (x : ℕ). states ! x) w.0 ∙ d))) (λ w. w.1) (set_cases into t (into ! t + 1) q 0 (omega arith));
+          (set_cases into t (into ! t + 1) q 0 (omega (arith, o.0)));
+      others = λ q l g. ⊎_elim (λ w. absurd (g (ap (λ (x : ℕ). states ! x) w.0 ∙ o.2))) (λ w. w.1) (set_cases into t (into ! t + 1) q 0 (omega (arith, o.0)));
     }
 
-    pub less_one : 0 < into ! t → Less n states r t into (set into t (into ! t - 1))
-    less_one k = record {
+    less_at : 0 < into ! t → Less n states r t into (set into t (into ! t - 1))
+    less_at k = record {
       size = length-set into t (into ! t - 1);
       drafts = λ q l _.
           ⊎_elim
-          (λ w. omega (arith, w.1, ap (λ (x : ℕ). into ! x) w.0, hit_on q r t (sym w.0) (λ y. f (sym w.0 ∙ sym y))))
+          (λ w. omega (arith, w.1, ap (λ (x : ℕ). into ! x) w.0, hit_on q r t (sym w.0) (λ y. o.1 (sym w.0 ∙ sym y))))
           (λ w. omega (arith, w.1, hit_off q r t (λ y. w.0 (sym y))))
-          (set_cases into t (into ! t - 1) q 0 (omega arith));
-      others = λ q l g. ⊎_elim (λ w. absurd (g (ap (λ (x : ℕ). states ! x) w.0 ∙ d))) (λ w. w.1) (set_cases into t (into ! t - 1) q 0 (omega arith));
+          (set_cases into t (into ! t - 1) q 0 (omega (arith, o.0)));
+      others = λ q l g. ⊎_elim (λ w. absurd (g (ap (λ (x : ℕ). states ! x) w.0 ∙ o.2))) (λ w. w.1) (set_cases into t (into ! t - 1) q 0 (omega (arith, o.0)));
     }
+
+  pub more-one : Reckoned n states into → Counting n states r t true → More n states r t into (set into t (into ! t + 1))
+  more-one g v = more_at g.into_n (v.yes refl)
+
+  pub less_one : Takable n states into r t → Counting n states r t true → Less n states r t into (set into t (into ! t - 1))
+  less_one g v = let o = v.yes refl in less_at g.into_n o (g.some o.0 o.2 o.1)
 
 -- ---- a place of piece r goes from one target to another
 

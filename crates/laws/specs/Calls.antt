@@ -1,5 +1,5 @@
 -- The nine calls: a promise decides, a refused call leaves the store and the list, and the inner door leads to the promise.
-use Rattle.std.specs.Prelude.{◌≡◌, Bool, true, false, not, List, [], ◌∷◌, ℕ, ◌*◌, ◌≤◌, T, eqb, leb, length}
+use Rattle.std.specs.Prelude.{◌≡◌, Bool, true, false, not, List, [], ◌∷◌, ℕ, ◌*◌, ◌≤◌, T, eqb, leb, length, Ok, Err}
 use Rattle.std.proofs.Math.Path.{refl}
 use Rattle.std.proofs.Common.{sym, ap, ◌∙◌, subst, arith, T_not, eqb→eq, leb→le, le→leb}
 use Rattle.rules.specs.Tests.{◌&◌, pick}
@@ -13,10 +13,7 @@ use Rattle.rules.specs.Calls.{is_lent, later_refusals, call_refusals, judge, cle
 use Rattle.rules.specs.History.{is_accepted}
 use Rattle.rules.specs.declared.Refusal.{Refusal}
 use Rattle.rules.specs.declared.Refusal.TheVariants.{Size, Unsound}
-use Rattle.rules.specs.declared.Checked.TheVariants.{Yes, No}
 use Rattle.rules.specs.declared.Command.{Command}
-use Rattle.rules.specs.declared.Answer.TheVariants.{Refused}
-use Rattle.rules.specs.declared.Seen.TheVariants.{Unseen}
 use Rattle.laws.specs.Tests.{and_both, and_left, and_right}
 use Rattle.laws.specs.Below.{pick_true, pick-false}
 use Rattle.laws.specs.Words.{eqb_of}
@@ -96,7 +93,7 @@ unfolding refused_call refused_by is_accepted
 refused_not r start = tt
 refused_not r (does c) = go (is_look c)
   where
-    go : (b : Bool) → T (not (is_accepted (pick b (saw (Unseen r)) (answered (Refused r)))))
+    go : (b : Bool) → T (not (is_accepted (pick b (saw (Err r)) (answered (Err r)))))
     go true = tt
     go false = tt
 refused_not r check = tt
@@ -137,7 +134,7 @@ accepted_said (does c) a = go (is_look c)
     go false = unfold done_by in tt
 accepted_said check a = go (is_sound_store a.store)
   where
-    go : (b : Bool) → T (is_accepted (checked (pick b Yes No)))
+    go : (b : Bool) → T (is_accepted (checked (pick b (Ok true) (Ok false))))
     go true = tt
     go false = tt
 

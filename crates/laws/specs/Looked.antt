@@ -10,13 +10,13 @@ use Rattle.rules.specs.Below.{sum}
 use Rattle.rules.specs.Tables.{Base, Tables, is_live, link_at, holds_of, in_group, leader_of, places, count_of}
 use Rattle.rules.specs.Words.{Draft, Frozen, Group, Leader, Sized, Sound, leader_at, count_at}
 use Rattle.rules.specs.Calls.{seen_at}
-use Rattle.rules.specs.declared.Seen.TheVariants.{Piece}
 use Rattle.laws.specs.Tests.{same_test}
 use Rattle.laws.specs.Below.{sum_cong}
 use Rattle.laws.specs.Words.{in_group→, →in_group, not_frozen, leader_of_is, leader-one}
 use Rattle.laws.specs.Sound.{Entries, sound→entries, leader_entry_frozen, leader_entry_other, count_entry-leads}
 use Rattle.laws.specs.Passes.{draft_of}
 use Rattle.laws.specs.Groups.{group_turn, group_back, leader_shared}
+use Rattle.rules.specs.Replies.{piece_seen}
 
 -- members of one group have one count
 module _ (b : Base) (p q : ℕ) (f : Frozen b p) (g : Group b p q) where
@@ -36,9 +36,9 @@ module _ (s : Tables) (z : Sized s) (sd : Sound s) (p : ℕ) where
   entries = sound→entries s sd
 
   -- state, leader, count of its group, holds of P
-  pub look_frozen : Frozen s.base p → seen_at s p ≡ Piece 2 (leader_of s.base p) (count_of s.base p) (holds_of s.base p)
+  pub look_frozen : Frozen s.base p → seen_at s p ≡ piece_seen 2 (leader_of s.base p) (count_of s.base p) (holds_of s.base p)
   unfolding seen_at
-  look_frozen f = λ i. Piece (f.is i) (led i) (counted i) (holds_of s.base p)
+  look_frozen f = λ i. piece_seen (f.is i) (led i) (counted i) (holds_of s.base p)
     where
       led : leader_at s p ≡ leader_of s.base p
       led = entries.leaders p f.below ∙ leader_entry_frozen s.base p f.is
@@ -57,9 +57,9 @@ module _ (s : Tables) (z : Sized s) (sd : Sound s) (p : ℕ) where
           ap (count_at s) led ∙ entries.counts l is.member.frozen.below ∙ count_entry-leads s.base l is.member.frozen.is own ∙ sym (same_count s.base p l f is.member)
 
   -- for a draft 1, none, 0, 0
-  pub look_draft : Draft s.base p → seen_at s p ≡ Piece 1 none 0 0
+  pub look_draft : Draft s.base p → seen_at s p ≡ piece_seen 1 none 0 0
   unfolding seen_at
-  look_draft d = λ i. Piece (d.is i) (led i) (counted i) ((draft_of s.base p (entries.good.wells p d.below) d.is).holds i)
+  look_draft d = λ i. piece_seen (d.is i) (led i) (counted i) ((draft_of s.base p (entries.good.wells p d.below) d.is).holds i)
     where
       led : leader_at s p ≡ none
       led = entries.leaders p d.below ∙ leader_entry_other s.base p (not_frozen s.base p 1 d.is tt)

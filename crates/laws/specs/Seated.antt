@@ -1,7 +1,7 @@
 -- From what a command that names a seat did by the tables alone to what it did to the store: the seat's row before, the register's behind.
 use Rattle.std.proofs.Math.Path.{◌≡◌, refl, sym}
 use Rattle.std.proofs.Common.{ap, ◌∙◌, subst, T_not, lt→ltb}
-use Rattle.std.specs.Prelude.{Bool, List, [], ◌∷◌, ℕ, ◌≤◌, ◌<◌, ltb}
+use Rattle.std.specs.Prelude.{Bool, List, [], ◌∷◌, ℕ, ◌≤◌, ◌<◌, ltb, Err}
 use Rattle.std.proofs.Math.Bool.{true, false, not}
 use native.Mathlib.Omega.{arith}
 use Rattle.std.proofs.Math.Dec.{T, not_T, ltb→lt}
@@ -14,12 +14,12 @@ use Rattle.rules.specs.declared.Refusal.{Refusal}
 use Rattle.rules.specs.declared.Refusal.TheVariants.{Seat, Register, NotYours}
 use Rattle.rules.specs.declared.Command.{Command}
 use Rattle.rules.specs.declared.Command.TheVariants.{New, Set, Freeze, Acquire, Release, Bin, Look}
-use Rattle.rules.specs.declared.Answer.TheVariants.{Done, Refused}
 use Rattle.laws.specs.Words.{eqb_of, neqb_of}
 use Rattle.laws.specs.Passes.{table_verdict}
 use Rattle.laws.specs.Rows.{first-at, first-none}
 use Rattle.laws.specs.ByTables.{TablesEffect, tables_effect, tables_effected, DidTables}
 use Rattle.laws.specs.Verdicts.{seat_verdict, register_verdict, seat_refused, tables_refused, register_refused, all_did, Itself, not_again}
+use Rattle.rules.specs.Replies.{done}
 
 -- ---- by the tables every seat is alike
 
@@ -53,7 +53,7 @@ module _ {p i j : ℕ} {t : Tables} {l : List ℕ} {e : TablesEffect} where
 
 -- ---- what the answer tells of the verdict by the tables
 
-refused_says : (c : Command) → names_seat c ≡ true → (r : Refusal) → refused_by r c ≡ answered (Refused r)
+refused_says : (c : Command) → names_seat c ≡ true → (r : Refusal) → refused_by r c ≡ answered (Err r)
 unfolding refused_by
 refused_says New e r = refl
 refused_says (Set p k t) e r = refl
@@ -75,29 +75,29 @@ accepted_says (Look p) e t = absurd (let z : ◌≡◌ {A = ℕ} 0 1 = cc e in o
 
 module _ (c : Command) (names : names_seat c ≡ true) (t : Tables) (l : List ℕ) where
   -- a refusal is the tables' own
-  told_refused : {r : Refusal} {t' : Tables} {l' : List ℕ} → DidTables c t l (tables_effect (answered (Refused r)) t' l') → table_verdict t.base c ≡ refused r
+  told_refused : {r : Refusal} {t' : Tables} {l' : List ℕ} → DidTables c t l (tables_effect (answered (Err r)) t' l') → table_verdict t.base c ≡ refused r
   unfolding done_by tables_effected
   told_refused {r} {t'} {l'} d = go (table_verdict t.base c) (ap (λ (e : TablesEffect). e.reply) d.exact)
     where
-      other : answered (Refused r) ≡ answered (done_by t.base c) → ⊥
+      other : answered (Err r) ≡ answered (done_by t.base c) → ⊥
       other e = let z : ◌≡◌ {A = ℕ} 0 1 = cc e in omega arith
 
-      same : {q : Refusal} → answered (Refused r) ≡ answered (Refused q) → refused q ≡ refused r
+      same : {q : Refusal} → answered (Err r) ≡ answered (Err q) → refused q ≡ refused r
       same e = cc e
 
-      go : (v : Verdict) → answered (Refused r) ≡ (tables_effected t l c v).reply → v ≡ refused r
+      go : (v : Verdict) → answered (Err r) ≡ (tables_effected t l c v).reply → v ≡ refused r
       go accepted e = absurd (other (e ∙ accepted_says c names t))
       go (refused q) e = same (e ∙ refused_says c names q)
 
   -- an answer of work done is an acceptance
-  told_accepted : {v f : ℕ} {t' : Tables} {l' : List ℕ} → DidTables c t l (tables_effect (answered (Done v f)) t' l') → table_verdict t.base c ≡ accepted
+  told_accepted : {v f : ℕ} {t' : Tables} {l' : List ℕ} → DidTables c t l (tables_effect (answered (done v f)) t' l') → table_verdict t.base c ≡ accepted
   unfolding tables_effected
   told_accepted {v} {f} {t'} {l'} d = go (table_verdict t.base c) (ap (λ (e : TablesEffect). e.reply) d.exact)
     where
-      other : {q : Refusal} → answered (Done v f) ≡ answered (Refused q) → ⊥
+      other : {q : Refusal} → answered (done v f) ≡ answered (Err q) → ⊥
       other e = let z : ◌≡◌ {A = ℕ} 0 1 = cc e in omega arith
 
-      go : (w : Verdict) → answered (Done v f) ≡ (tables_effected t l c w).reply → w ≡ accepted
+      go : (w : Verdict) → answered (done v f) ≡ (tables_effected t l c w).reply → w ≡ accepted
       go accepted e = refl
       go (refused q) e = absurd (other (e ∙ refused_says c names q))
 
@@ -154,28 +154,28 @@ passed_seat {c} {i} m h = ap first_of m.row ∙ row_passed (no_seat i) Seat (not
 
 module _ {c : Command} {i : ℕ} {t : Tables} {l register : List ℕ} (m : BySeat c i) where
   answered_so : {r : Refusal} → Did c (store_by t register) l (effect (refused_by r c) (store_by t register) l)
-      → Did c (store_by t register) l (effect (answered (Refused r)) (store_by t register) l)
+      → Did c (store_by t register) l (effect (answered (Err r)) (store_by t register) l)
   answered_so {r} d = subst (λ (a : Reply). Did c (store_by t register) l (effect a (store_by t register) l)) (refused_says c m.names r) d
 
   -- refused by the seat
-  pub refused_seat : 32 ≤ i → Did c (store_by t register) l (effect (answered (Refused Seat)) (store_by t register) l)
+  pub refused_seat : 32 ≤ i → Did c (store_by t register) l (effect (answered (Err Seat)) (store_by t register) l)
   refused_seat h = answered_so (seat_refused (unfold seat_verdict in (ap first_of m.row ∙ row-given (no_seat i) Seat (not_T (ltb i 32) (λ t. omega (arith, ltb→lt i 32 t))))))
 
   module _ (same : Itself (store_by t register) c) (h : i < 32) where
     -- by the tables
-    pub refused_tables : {r : Refusal} → DidTables c t l (tables_effect (answered (Refused r)) t l)
-        → Did c (store_by t register) l (effect (answered (Refused r)) (store_by t register) l)
+    pub refused_tables : {r : Refusal} → DidTables c t l (tables_effect (answered (Err r)) t l)
+        → Did c (store_by t register) l (effect (answered (Err r)) (store_by t register) l)
     refused_tables d = answered_so (tables_refused same (passed_seat m h) (told_refused c m.names t l d))
 
     -- by the register
     refused_last : {r : Refusal} → table_verdict t.base c ≡ accepted → register_verdict register c ≡ refused r
-        → Did c (store_by t register) l (effect (answered (Refused r)) (store_by t register) l)
+        → Did c (store_by t register) l (effect (answered (Err r)) (store_by t register) l)
     refused_last tables e = answered_so (register_refused same (passed_seat m h) tables e)
 
     -- by none of them
     done_seated : {v f : ℕ} {t' : Tables} {l' register' : List ℕ} → register_verdict register c ≡ accepted
-        → DidTables c t l (tables_effect (answered (Done v f)) t' l') → register' ≡ noted register c
-        → Did c (store_by t register) l (effect (answered (Done v f)) (store_by t' register') l')
+        → DidTables c t l (tables_effect (answered (done v f)) t' l') → register' ≡ noted register c
+        → Did c (store_by t register) l (effect (answered (done v f)) (store_by t' register') l')
     done_seated {v} {f} {t'} {l'} {register'} last d e = record { exact = both ∙ (all_did same (passed_seat m h) tables last).exact }
       where
         tables : table_verdict t.base c ≡ accepted
@@ -184,17 +184,17 @@ module _ {c : Command} {i : ℕ} {t : Tables} {l register : List ℕ} (m : BySea
         opened : tables_effected t l c accepted ≡ tables_effect (accepted_by t c) (next_tables t c) (listing (freed_by t.base c) l)
         opened = unfold tables_effected in refl
 
-        work : tables_effect (answered (Done v f)) t' l' ≡ tables_effect (accepted_by t c) (next_tables t c) (listing (freed_by t.base c) l)
+        work : tables_effect (answered (done v f)) t' l' ≡ tables_effect (accepted_by t c) (next_tables t c) (listing (freed_by t.base c) l)
         work = d.exact ∙ ap (tables_effected t l c) tables ∙ opened
 
-        both : effect (answered (Done v f)) (store_by t' register') l'
+        both : effect (answered (done v f)) (store_by t' register') l'
             ≡ effect (accepted_by t c) (store_by (next_tables t c) (noted register c)) (listing (freed_by t.base c) l)
         both = λ k. effect (work k).reply (store_by (work k).tables (e k)) (work k).list
 
 -- one hold more: where a line is needed and none is free, the register refuses
 module _ {c : Command} {i p : ℕ} {t : Tables} {l register : List ℕ} (m : Adds c i p) (same : Itself (store_by t register) c) (h : i < 32) where
   pub refused_line : table_verdict t.base c ≡ accepted → false ≡ not (no_line register i p)
-      → Did c (store_by t register) l (effect (answered (Refused Register)) (store_by t register) l)
+      → Did c (store_by t register) l (effect (answered (Err Register)) (store_by t register) l)
   refused_line tables e =
       refused_last m.seat same h tables (unfold register_verdict in (ap first_of (m.row register) ∙ row-given (no_line register i p) Register (go (no_line register i p) e)))
     where
@@ -203,8 +203,8 @@ module _ {c : Command} {i p : ℕ} {t : Tables} {l register : List ℕ} (m : Add
       go false e = absurd (let z : ◌≡◌ {A = ℕ} 0 1 = cc e in omega arith)
 
   pub done_more : {v f : ℕ} {t' : Tables} {l' register' : List ℕ} → true ≡ not (no_line register i p)
-      → DidTables c t l (tables_effect (answered (Done v f)) t' l') → register' ≡ one_more_by register i p
-      → Did c (store_by t register) l (effect (answered (Done v f)) (store_by t' register') l')
+      → DidTables c t l (tables_effect (answered (done v f)) t' l') → register' ≡ one_more_by register i p
+      → Did c (store_by t register) l (effect (answered (done v f)) (store_by t' register') l')
   done_more e d new =
       done_seated m.seat same h (unfold register_verdict in (ap first_of (m.row register) ∙ row_passed (no_line register i p) Register (subst T e tt)))
       d (new ∙ sym (m.notes register))
@@ -212,14 +212,14 @@ module _ {c : Command} {i p : ℕ} {t : Tables} {l register : List ℕ} (m : Add
 -- one hold less: where the seat has none, the register refuses
 module _ {c : Command} {i p : ℕ} {t : Tables} {l register : List ℕ} (m : Takes c i p) (same : Itself (store_by t register) c) (h : i < 32) where
   pub refused_yours : table_verdict t.base c ≡ accepted → held_by register i p ≡ 0
-      → Did c (store_by t register) l (effect (answered (Refused NotYours)) (store_by t register) l)
+      → Did c (store_by t register) l (effect (answered (Err NotYours)) (store_by t register) l)
   refused_yours tables e =
       refused_last m.seat same h tables
       (unfold register_verdict in (ap first_of (m.row register) ∙ row-given (not_yours register i p) NotYours (unfold not_yours in (eqb_of e))))
 
   pub done_less : {v f : ℕ} {t' : Tables} {l' register' : List ℕ} → (held_by register i p ≡ 0 → ⊥)
-      → DidTables c t l (tables_effect (answered (Done v f)) t' l') → register' ≡ one_less_by register i p
-      → Did c (store_by t register) l (effect (answered (Done v f)) (store_by t' register') l')
+      → DidTables c t l (tables_effect (answered (done v f)) t' l') → register' ≡ one_less_by register i p
+      → Did c (store_by t register) l (effect (answered (done v f)) (store_by t' register') l')
   done_less some d new =
       done_seated m.seat same h
       (unfold register_verdict in (ap first_of (m.row register) ∙ row_passed (not_yours register i p) NotYours (unfold not_yours in (neqb_of some))))

@@ -1,5 +1,5 @@
 -- What a call answers, as numbers: every promise decides them, and they are those of the rulebook.
-use Rattle.std.specs.Prelude.{◌≡◌, Bool, true, ℕ, length, get_or}
+use Rattle.std.specs.Prelude.{◌≡◌, Bool, true, ℕ, length, get_or, Ok, Err}
 use Rattle.std.proofs.Math.Path.{refl}
 use Rattle.std.proofs.Common.{ap, ◌∙◌}
 use Rattle.std.proofs.Math.Bool.{false}
@@ -11,9 +11,6 @@ use Rattle.rules.specs.Calls.{Call, start, does, check, Areas, number_of, answer
 use Rattle.rules.specs.Calls.{checked_values, numbers_of, Outcome, refused_by, refused_call, seen_at, done_by, accepted_by, judge, cleared, accepted_call, ended, outcome_of, Promise}
 use Rattle.rules.specs.declared.Refusal.{Refusal}
 use Rattle.rules.specs.declared.Command.{Command}
-use Rattle.rules.specs.declared.Answer.TheVariants.{Refused}
-use Rattle.rules.specs.declared.Seen.TheVariants.{Unseen}
-use Rattle.rules.specs.declared.Checked.TheVariants.{Yes, No}
 
 -- refusal, value, number freed
 abbrev three : ℕ → ℕ → ℕ → Numbers
@@ -52,11 +49,11 @@ outcome_numbers a c = unfold outcome_of in (by a c (judge a c))
     done a c true = unfold seen_at in refl
     done a c false = unfold done_by in refl
 
-    no : (r : Refusal) (b : Bool) → numbers_of (pick b (saw (Unseen r)) (answered (Refused r))) ≡ pick b (looked (number_of r) 0 none 0 0) (three (number_of r) none 0)
+    no : (r : Refusal) (b : Bool) → numbers_of (pick b (saw (Err r)) (answered (Err r))) ≡ pick b (looked (number_of r) 0 none 0 0) (three (number_of r) none 0)
     no r true = refl
     no r false = refl
 
-    yes : (b : Bool) → numbers_of (checked (pick b Yes No)) ≡ told 0 (pick b 1 0)
+    yes : (b : Bool) → numbers_of (checked (pick b (Ok true) (Ok false))) ≡ told 0 (pick b 1 0)
     yes true = refl
     yes false = refl
 

@@ -1,4 +1,3 @@
-pub mod Pasted
 pub mod Poured
 pub mod Filled
 pub mod Lent

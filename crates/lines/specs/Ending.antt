@@ -1,17 +1,20 @@
 -- A line read at its place in a text: the byte 10 behind its last word ends it.
-use Rattle.std.specs.Prelude.{◌≡◌, refl, Bool, true, false, List, [], ◌∷◌, ◌++◌, ℕ, suc, ◌+◌, ◌≤◌, ◌<◌, eqb, leb, length, get_or, take, drop}
+use Rattle.std.specs.Prelude.{◌≡◌, refl, Bool, true, false, List, [], ◌∷◌, ◌++◌, ℕ, suc, ◌+◌, ◌≤◌, ◌<◌, eqb, leb, length, get_or, take, drop, Option, Some, None}
 use Rattle.std.proofs.Common.{ap, ◌∙◌, arith}
 use Rattle.std.proofs.lemmas.List.{take-append-le, drop-append-le}
 use Rattle.rules.specs.Tests.{◌&◌, pick}
 use Rattle.rules.specs.Trace.{Word, is, bad, is_digit, digits, decimal_from, number_of_digits, number, word, target, target_word, says}
 use Rattle.rules.specs.declared.Command.{Command}
 use Rattle.rules.specs.declared.Command.TheVariants.{New, Set, Freeze, Acquire, Release, Bin, Look}
-use Rattle.rules.specs.declared.Line.{Line}
-use Rattle.rules.specs.declared.Line.TheVariants.{Does, Bad}
-use Rattle.lines.specs.declared.Named.{Named}
-use Rattle.lines.specs.declared.Named.TheVariants.{Last, Nothing}
-use Rattle.lines.specs.declared.Found.{Found}
-use Rattle.lines.specs.declared.Found.TheVariants.{Right, Other}
+use Rattle.rules.specs.Replies.{Line}
+
+-- what stands at a place: what a right line says, with the place behind its end; none where no right line stands
+abbrev pub Found : Type 0
+Found = Option (Command × ℕ)
+
+-- what a line names last, a piece or a seat, with the place behind byte 10; none for anything else
+abbrev pub Named : Type 0
+Named = Option (ℕ × ℕ)
 
 -- no byte of it ends a line
 abbrev pub Unended : List ℕ → Type 0
@@ -28,17 +31,17 @@ pub data Front : Type 0 where
 
 -- a line that says this, with what is left behind it
 abbrev pub leaving : Line → List ℕ → Front
-leaving (Does c) more = right c more
-leaving Bad more = other
+leaving (Some c) more = right c more
+leaving None more = other
 
 abbrev pub front_of : List ℕ → Found → Front
-front_of text (Right c next) = right c (drop next text)
-front_of text Other = other
+front_of text (Some (c, next)) = right c (drop next text)
+front_of text None = other
 
 -- the place behind the line
 abbrev pub next_of : Found → ℕ
-next_of (Right c next) = next
-next_of Other = 0
+next_of (Some (c, next)) = next
+next_of None = 0
 
 -- whatever line stands at a place with byte 10 behind it, it is what was found
 pub record Reads (text : List ℕ) (at : ℕ) (r : Found) : Type 0 where
@@ -87,8 +90,8 @@ chosen_by b rest =
 
 -- the command c of what is named last
 abbrev pub found_by : (ℕ → Command) → Named → Found
-found_by c (Last p next) = Right (c p) next
-found_by c Nothing = Other
+found_by c (Some (p, next)) = Some (c p, next)
+found_by c None = None
 
 -- what stands at a place is the last word, for every command that has one
 pub record Names (text : List ℕ) (at : ℕ) (r : Named) : Type 0 where

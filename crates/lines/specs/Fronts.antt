@@ -1,22 +1,14 @@
 -- What is found at the front of a text is what its first line says: byte 10 stands behind its last word, or the line is bad.
-use Rattle.std.specs.Prelude.{◌≡◌, refl, Bool, true, false, List, [], ◌∷◌, ◌++◌, ℕ, suc, ◌+◌, ◌≤◌, ◌<◌, eqb, length}
-use Rattle.std.proofs.Common.{sym, ◌∙◌, subst, arith, add-one, drop-cons}
-use Rattle.std.proofs.Math.Path.{ap}
-use borrow.Author.Tests.{eq-eqb, ne_eqb}
-use Rattle.std.proofs.Math.ListN.{get_or, drop}
+use Rattle.std.specs.Prelude.{◌≡◌, refl, Bool, true, false, List, [], ◌∷◌, ◌++◌, ℕ, suc, ◌+◌, ◌≤◌, ◌<◌, eqb, length, None}
+use Rattle.std.proofs.Common.{sym, ◌∙◌, subst, arith, add-one, drop-cons, ap, ne_eqb, get_or, drop}
 use Rattle.rules.specs.Tests.{pick}
 use Rattle.rules.specs.Trace.{Word, is, bad, word, target_word, ends, naming, seated_by, seated_or, seated, set_to, set_place, set_piece, chosen, says}
 use Rattle.rules.specs.declared.Command.{Command}
 use Rattle.rules.specs.declared.Command.TheVariants.{New, Set, Freeze, Acquire, Release, Bin, Look}
-use Rattle.rules.specs.declared.Line.{Line}
-use Rattle.rules.specs.declared.Line.TheVariants.{Bad}
-use Rattle.lines.specs.declared.Named.{Named}
-use Rattle.lines.specs.declared.Named.TheVariants.{Last, Nothing}
-use Rattle.lines.specs.declared.Found.{Found}
-use Rattle.lines.specs.declared.Found.TheVariants.{Right, Other}
-use Rattle.lines.specs.Ending.{Closed, Unended, Front, right, other, leaving, front_of, next_of, Reads, ended_by, naming_by, seat_or_by, seating_by, set_to_by, set_place_by, set_piece_by}
+use Rattle.lines.specs.Ending.{Found, Named, Unended, Front, leaving, front_of, next_of, Reads, ended_by, naming_by, seat_or_by, seating_by, set_to_by, set_place_by, set_piece_by}
 use Rattle.lines.specs.Ending.{found_by, Names, Seats, chosen_by, behind, word-ended, target-word-ended}
 use Rattle.lines.specs.Left.{Left, unended_tail, word_left, target-word_left, says-chosen}
+use Rattle.rules.specs.Replies.{Line}
 
 -- ---- a line with byte 10 behind it says what the line says
 
@@ -68,7 +60,7 @@ module _ (more : List ℕ) where
       (pick_is (eqb b 97) (seated Acquire w) release (seated_is Acquire l w h)
       (pick_is (eqb b 114) (seated Release w) bin (seated_is Release l w h)
       (pick_is (eqb b 98) (naming Bin w) look (naming_is Bin 6 l w h)
-      (pick_is (eqb b 108) (naming Look w) Bad (naming_is Look 6 l w h) refl)))))))
+      (pick_is (eqb b 108) (naming Look w) None (naming_is Look 6 l w h) refl)))))))
     where
       w : Word
       w = word l
@@ -77,7 +69,7 @@ module _ (more : List ℕ) where
       h = word_left l u
 
       look : Line
-      look = pick (eqb b 108) (naming Look w) Bad
+      look = pick (eqb b 108) (naming Look w) None
 
       bin : Line
       bin = pick (eqb b 98) (naming Bin w) look
@@ -97,19 +89,6 @@ module _ (more : List ℕ) where
 -- ---- at a place of a text
 
 module _ (text : List ℕ) (at : ℕ) where
-  pub ended_here : (c : Command) → at < length text → get_or text at 0 ≡ 10 → ended_by c (drop at text) ≡ right c (drop (at + 1) text)
-  ended_here c l e = rw (drop-cons text at 0 l, add-one at, eq-eqb (get_or text at 0) 10 e)
-
-  pub ended-not : (c : Command) → at < length text → (get_or text at 0 ≡ 10 → ⊥) → ended_by c (drop at text) ≡ other
-  ended-not c l e = rw (drop-cons text at 0 l, ne_eqb (get_or text at 0) 10 e)
-
-  -- a line ends behind its piece, or a seat stands there
-  seat_here : (c : ℕ → ℕ → Command) (p : ℕ) → at < length text → get_or text at 0 ≡ 10 → seat_or_by c p (drop at text) ≡ right (c p 0) (drop (at + 1) text)
-  seat_here c p l e = rw (drop-cons text at 0 l, add-one at, eq-eqb (get_or text at 0) 10 e)
-
-  seat_not : (c : ℕ → ℕ → Command) (p : ℕ) → at < length text → (get_or text at 0 ≡ 10 → ⊥) → seat_or_by c p (drop at text) ≡ naming_by (c p) (word (drop at text))
-  seat_not c p l e = rw (drop-cons text at 0 l, ne_eqb (get_or text at 0) 10 e)
-
   -- what was found is what the line says
   found_exact : at < length text → (r : Found) → front_of text r ≡ chosen_by (get_or text at 0) (drop (at + 1) text)
       → (line more : List ℕ) → Unended line → drop at text ≡ line ++ (10 ∷ more) → front_of text r ≡ leaving (says line) more
@@ -125,35 +104,6 @@ module _ (text : List ℕ) (at : ℕ) where
           let q : drop (suc at) text ≡ bs ++ (10 ∷ more) = cc in
           ap (λ (n : ℕ). chosen_by (get_or text at 0) (drop n text)) (add-one at) ∙ ap (λ (y : ℕ). chosen_by y (drop (suc at) text)) p ∙ ap (chosen_by b) q
           ∙ chosen_is more b bs (unended_tail b bs v) ∙ ap (λ (y : Line). leaving y more) (sym (says-chosen b bs (unended_tail b bs v)))
-
--- ---- a line behind its first byte
-
-module _ (text : List ℕ) (at : ℕ) where
-  pub news : at < length text → get_or text at 0 ≡ 10 → (front_of text (Right New (at + 1)) ≡ ended_by New (drop at text)) × (at + 1 ≤ length text)
-  news h e = (sym (ended_here text at New h e), omega arith)
-
-  pub no_new : at < length text → (get_or text at 0 ≡ 10 → ⊥) → (front_of text Other ≡ ended_by New (drop at text)) × (next_of Other ≤ length text)
-  no_new h e = (sym (ended-not text at New h e), omega arith)
-
-module _ {text : List ℕ} {at : ℕ} where
-  pub names-none : word (drop at text) ≡ bad → Names text at Nothing
-  names-none e = record { exact = λ c. sym (ap (naming_by c) e); inside = λ c. omega arith }
-
-  -- the word p, and what stands at `end` behind it
-  module _ {p end : ℕ} (e : word (drop at text) ≡ is p (drop end text)) (h : end < length text) where
-    pub names_piece : get_or text end 0 ≡ 10 → Names text at (Last p (end + 1))
-    names_piece x = record { exact = λ c. sym (ap (naming_by c) e ∙ ended_here text end (c p) h x); inside = λ c. omega arith }
-
-    pub names_more : (get_or text end 0 ≡ 10 → ⊥) → Names text at Nothing
-    names_more x = record { exact = λ c. sym (ap (naming_by c) e ∙ ended-not text end (c p) h x); inside = λ c. omega arith }
-
-module _ {text : List ℕ} {at : ℕ} where
-  -- the line ends behind its piece: seat 0 acts
-  pub seats-zero : at < length text → get_or text at 0 ≡ 10 → Seats text at (Last 0 (at + 1))
-  seats-zero h x = record { exact = λ c p. sym (seat_here text at c p h x); inside = λ c. omega arith }
-
-  pub seats-named : {r : Named} → at < length text → (get_or text at 0 ≡ 10 → ⊥) → Names text at r → Seats text at r
-  seats-named h x n = record { exact = λ c p. n.exact (c p) ∙ sym (seat_not text at c p h x); inside = n.inside }
 
 -- ---- what is found, by the first byte
 
@@ -178,8 +128,8 @@ module _ {text : List ℕ} {at : ℕ} (l : at < length text) where
   reads_set {r} e h = reads r (rw e h.0) h.1
 
   -- a command that names one piece and a seat: without a piece, and with the piece p and what was named behind it
-  seatless : (c : ℕ → ℕ → Command) (b : ℕ) → SeatLetter b c → get_or text at 0 ≡ b → word (drop (at + 1) text) ≡ bad → Reads text at Other
-  seatless c b k e w = reads Other (sym (ap (λ (x : ℕ). chosen_by x (drop (at + 1) text)) e ∙ k (drop (at + 1) text) ∙ ap (seating_by c) w)) (omega arith)
+  seatless : (c : ℕ → ℕ → Command) (b : ℕ) → SeatLetter b c → get_or text at 0 ≡ b → word (drop (at + 1) text) ≡ bad → Reads text at None
+  seatless c b k e w = reads None (sym (ap (λ (x : ℕ). chosen_by x (drop (at + 1) text)) e ∙ k (drop (at + 1) text) ∙ ap (seating_by c) w)) (omega arith)
 
   reads_seated : (c : ℕ → ℕ → Command) (b : ℕ) → SeatLetter b c → get_or text at 0 ≡ b
       → {p end : ℕ} {r : Named} {f : Found} → word (drop (at + 1) text) ≡ is p (drop end text) → Seats text end r → found_by (c p) r ≡ f → Reads text at f
@@ -196,13 +146,13 @@ module _ {text : List ℕ} {at : ℕ} (l : at < length text) where
       (reads (found_by c r) (n.exact c ∙ sym (ap (λ (x : ℕ). chosen_by x (drop (at + 1) text)) e ∙ k (drop (at + 1) text))) (n.inside c))
 
   module _ (w : word (drop (at + 1) text) ≡ bad) where
-    pub no_freeze : get_or text at 0 ≡ 102 → Reads text at Other
+    pub no_freeze : get_or text at 0 ≡ 102 → Reads text at None
     no_freeze e = seatless Freeze 102 (λ rest. unfold chosen_by in refl) e w
 
-    pub no_acquire : get_or text at 0 ≡ 97 → Reads text at Other
+    pub no_acquire : get_or text at 0 ≡ 97 → Reads text at None
     no_acquire e = seatless Acquire 97 (λ rest. unfold chosen_by in refl) e w
 
-    pub no_release : get_or text at 0 ≡ 114 → Reads text at Other
+    pub no_release : get_or text at 0 ≡ 114 → Reads text at None
     no_release e = seatless Release 114 (λ rest. unfold chosen_by in refl) e w
 
   module _ {p end : ℕ} {r : Named} {f : Found} (w : word (drop (at + 1) text) ≡ is p (drop end text)) (n : Seats text end r) where
@@ -224,10 +174,10 @@ module _ {text : List ℕ} {at : ℕ} (l : at < length text) where
 
   -- all others are bad
   pub reads_other : (get_or text at 0 ≡ 110 → ⊥) → (get_or text at 0 ≡ 115 → ⊥) → (get_or text at 0 ≡ 102 → ⊥) → (get_or text at 0 ≡ 97 → ⊥)
-      → (get_or text at 0 ≡ 114 → ⊥) → (get_or text at 0 ≡ 98 → ⊥) → (get_or text at 0 ≡ 108 → ⊥) → Reads text at Other
+      → (get_or text at 0 ≡ 114 → ⊥) → (get_or text at 0 ≡ 98 → ⊥) → (get_or text at 0 ≡ 108 → ⊥) → Reads text at None
   unfolding chosen_by
   reads_other n s f a r b k =
-      reads Other (rw (
+      reads None (rw (
         ne_eqb (get_or text at 0) 110 n,
         ne_eqb (get_or text at 0) 115 s,
         ne_eqb (get_or text at 0) 102 f,
@@ -236,7 +186,3 @@ module _ {text : List ℕ} {at : ℕ} (l : at < length text) where
         ne_eqb (get_or text at 0) 98 b,
         ne_eqb (get_or text at 0) 108 k,
       )) (omega arith)
-
--- a letter is not the end of its line
-pub goes_on : (text : List ℕ) (at : ℕ) {b : ℕ} → (at < length text) × Closed text → get_or text at 0 ≡ b → (b ≡ 10 → ⊥) → (at + 1 < length text) × Closed text
-goes_on text at g e d = (g.1 at g.0 (λ x. d (sym e ∙ x)), g.1)

@@ -1,13 +1,9 @@
 -- The number at a place, read digit by digit: a digit more, the end, and a digit too many.
-use Rattle.std.specs.Prelude.{◌≡◌, refl, Bool, true, false, List, ◌∷◌, leb, length, get_or, take, drop}
-use Rattle.std.proofs.Common.{◌∙◌, add-one, zero-add, drop-cons}
-use Prim.Native.Nat.{ℕ, suc, ◌+◌, ◌*◌, ◌-◌, ◌^◌, ◌≤◌, ◌<◌}
-use native.Mathlib.Omega.{arith}
-use Rattle.std.proofs.Math.Nat.{add-zero, pow-le-pow_right}
-use borrow.Author.Tests.{leb-true, le-leb, lt-leb}
+use Rattle.std.specs.Prelude.{ℕ, suc, ◌+◌, ◌*◌, ◌-◌, ◌^◌, ◌≤◌, ◌<◌, ◌≡◌, refl, Bool, true, false, List, ◌∷◌, leb, length, get_or, take, drop, Some, None}
+use Rattle.std.proofs.Common.{◌∙◌, add-one, zero-add, drop-cons, arith, add-zero, leb-true, le-leb}
+use Rattle.std.proofs.lemmas.Bool.{lt-leb}
 use Rattle.rules.specs.Tests.{◌&◌, pick}
 use Rattle.rules.specs.Trace.{Word, is, bad, is_digit, digits, decimal_from, number_of_digits, number}
-use Rattle.lines.specs.declared.Taken.TheVariants.{Number, Bad}
 use Rattle.lines.specs.Cursor.{digit_of, taken_of, word_of, place_of}
 
 -- a number of which k digits of value v are read, and the d digits that a text starts with are not
@@ -58,7 +54,7 @@ too_many k v text h = rw (le-leb 1 (k + digits text) (omega arith), lt-leb (k + 
 finished_word : (line : List ℕ) (k v i : ℕ) → word_of line (taken_of v k i) ≡ pick (leb 1 k & leb v 65535) (is v (drop i line)) bad
 finished_word line k v i = by_test (leb 1 k & leb v 65535)
   where
-    by_test : (t : Bool) → word_of line (pick t (Number v (record { at = i })) Bad) ≡ pick t (is v (drop i line)) bad
+    by_test : (t : Bool) → word_of line (pick t (Some (v, record { at = i })) None) ≡ pick t (is v (drop i line)) bad
     by_test true = refl
     by_test false = refl
 
@@ -85,13 +81,10 @@ digit_unended b l e = by_test (is_digit b) (digit_test b l) e
 pub finished_place : (v k i n : ℕ) → i < n → place_of (taken_of v k i) < n
 finished_place v k i n h = by_test (leb 1 k & leb v 65535)
   where
-    by_test : (t : Bool) → place_of (pick t (Number v (record { at = i })) Bad) < n
+    by_test : (t : Bool) → place_of (pick t (Some (v, record { at = i })) None) < n
     by_test true = h
     by_test false = omega arith
 
 -- the value of at most 5 digits
 pub value_more : (v k d : ℕ) → v < 10 ^ k → d < 10 → v * 10 + d < 10 ^ (k + 1)
 value_more v k d h l = rw add-one (omega arith)
-
-pub value_small : (v k : ℕ) → k ≤ 5 → v < 10 ^ k → v < 100000
-value_small v k l h = omega (arith, pow-le-pow_right {n = 10} (omega arith) {i = k} {j = 5} l)

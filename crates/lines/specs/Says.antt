@@ -1,11 +1,9 @@
 -- The words at a place of a text by their first byte, and a line that is too long.
-use Rattle.std.specs.Prelude.{◌≡◌, refl, List, [], ◌∷◌, ℕ, ◌+◌, ◌<◌, length, get_or, drop}
-use Rattle.std.proofs.Math.Numerals.{add-one}
-use borrow.Author.Tests.{lt-leb, eq-eqb, ne_eqb}
-use Rattle.std.proofs.Common.{drop-cons}
+use Rattle.std.specs.Prelude.{◌≡◌, refl, List, [], ◌∷◌, ℕ, ◌+◌, ◌<◌, length, get_or, drop, None}
+use Rattle.std.proofs.lemmas.Bool.{lt-leb}
+use Rattle.std.proofs.Common.{drop-cons, add-one, eq-eqb, ne_eqb}
 use Rattle.rules.specs.Limits.{none}
 use Rattle.rules.specs.Trace.{is, bad, number, word, target, target_word, says}
-use Rattle.rules.specs.declared.Line.TheVariants.{Bad}
 
 module _ (line : List ℕ) (at : ℕ) where
   pub word_space : at < length line → get_or line at 0 ≡ 32 → word (drop at line) ≡ number (drop (at + 1) line)
@@ -34,7 +32,7 @@ module _ (line : List ℕ) (at : ℕ) where
 
 -- ---- a line over 64 bytes
 
-pub says_long : (line : List ℕ) → 64 < length line → says line ≡ Bad
+pub says_long : (line : List ℕ) → 64 < length line → says line ≡ None
 unfolding says
 says_long [] e = refl
 says_long (b ∷ bs) e = rw (lt-leb (length (b ∷ bs)) 64 e)

@@ -1,7 +1,7 @@
 // One line of a text whose last byte is 10, read from left to right, one word at a time.
 #![tactic(auto)]
 
-ghost use Rattle.std.specs.Prelude.{◌≡◌, ◌≤◌, ◌<◌, length, drop};
+ghost use Rattle.std.specs.Prelude.{◌≡◌, ◌≤◌, ◌<◌, length, drop, MatchOption, slice_index, ◌≢◌, ◌+◌};
 ghost use Rattle.rules.specs.Trace.{number, word, target, target_word};
 ghost use Rattle.rules.specs.declared.Command.TheVariants.{New};
 ghost use Rattle.lines.specs.Cursor.{digit_of, taken_of, word_of, place_of};
@@ -10,235 +10,196 @@ ghost use Rattle.lines.specs.Ending.{Names, Seats, ended_by, Closed, Reads, fron
 use rules::{Command, Store};
 
 // The place in a text up to which it is read.
-#[derive(Drop)]
+#[derive(Clone, Copy)]
 pub struct Cursor {
     pub at: usize,
 }
 
-// A word of a line.
-#[derive(Drop)]
-pub enum Taken {
-    // Its number, with the cursor past it.
-    Number(u16, Cursor),
-    // No word stands there.
-    Bad,
-}
+// The most digits of a number.
+const DIGITS: usize = 5;
 
-// What stands at a place of a text.
-#[derive(Drop)]
-pub enum Found {
-    // A right line: what it says, with the place behind its end.
-    Right(Command, usize),
-    // No right line.
-    Other,
-}
-
-// A digit's value, and 10 for any other byte.
-fn digit(b: u8) -> u32
-    ensures { result ≡ digit_of b }
+// A digit's value.
+fn digit(b: u8) -> Option<u32>
+    ensures { MatchOption result (9 < digit_of b) (λ d. (d ≡ digit_of b) × (d < 10)) }
 {
     match b {
-        48..=57 => {
-            let d = b - 48;
-            d as u32
-        }
-        _ => 10,
+        b'0'..=b'9' => Some(u32::from(b - b'0')),
+        _ => None,
     }
 }
 
 // The number v of k digits, at most 5, that ends before a place: 1 to 5 digits, at most 65,535.
-fn finished(v: u32, k: usize, at: usize) -> Taken
+fn finished(v: u32, k: usize, at: usize) -> Option<(u16, Cursor)>
     ensures { result ≡ taken_of v k at }
 {
     if k < 1 {
-        return Taken::Bad;
+        return None;
     }
-    if 65535 < v {
-        return Taken::Bad;
-    }
-    let p = v as u16;
-    Taken::Number(p, Cursor { at: at })
+    let p = u16::try_from(v).ok()?;
+    Some((p, Cursor { at }))
 }
 
 impl Cursor {
     // The number at the cursor.
-    pub fn number(self, text: &[u8]) -> Taken
+    pub fn number(self, text: &[u8]) -> Option<(u16, Cursor)>
         requires { (self.at < length text.now) × Closed text.now }
         ensures { (word_of text.now result ≡ number (drop self.at text.now)) × (place_of result < length text.now) }
     {
-        let at = self.at;
         let mut v: u32 = 0;
-        let mut k = 0;
-        while k < 5 {
-            let d = digit(text[at + k]);
-            if 9 < d {
-                return finished(v, k, at + k);
-            }
+        for k in 0..DIGITS {
+            let at = self.at + k;
+            let Some(d) = digit(text[at]) else {
+                return finished(v, k, at);
+            };
             v = v * 10 + d;
-            k += 1;
         }
-        let d = digit(text[at + k]);
-        if 9 < d {
-            return finished(v, k, at + k);
+        let at = self.at + DIGITS;
+        match digit(text[at]) {
+            Some(_) => None,
+            None => finished(v, DIGITS, at),
         }
-        Taken::Bad
+    }
+
+    // Exactly one space.
+    fn space(self, text: &[u8]) -> Option<Cursor>
+        requires { (self.at < length text.now) × Closed text.now }
+        ensures { MatchOption result (slice_index text.now self.at ≢ 32) (λ c. (slice_index text.now self.at ≡ 32) × (c.at ≡ self.at + 1)) }
+    {
+        if text[self.at] != b' ' {
+            return None;
+        }
+        Some(Cursor { at: self.at + 1 })
     }
 
     // Exactly one space, then a number.
-    pub fn word(self, text: &[u8]) -> Taken
+    #[tactic(auto, using(crate::specs::Says::word_space, crate::specs::Says::word_other))]
+    pub fn word(self, text: &[u8]) -> Option<(u16, Cursor)>
         requires { (self.at < length text.now) × Closed text.now }
         ensures { (word_of text.now result ≡ word (drop self.at text.now)) × (place_of result < length text.now) }
     {
-        let at = self.at;
-        if text[at] == 32 {
-            return Cursor { at: at + 1 }.number(text);
-        }
-        Taken::Bad
+        self.space(text)?.number(text)
     }
 
     // A number, or `-` for none.
-    pub fn target(self, text: &[u8]) -> Taken
+    #[tactic(auto, using(crate::specs::Says::target_none))]
+    pub fn target(self, text: &[u8]) -> Option<(u16, Cursor)>
         requires { (self.at < length text.now) × Closed text.now }
         ensures { (word_of text.now result ≡ target (drop self.at text.now)) × (place_of result < length text.now) }
     {
-        let at = self.at;
-        if text[at] == 45 {
-            return Taken::Number(Store::NONE, Cursor { at: at + 1 });
+        if text[self.at] == b'-' {
+            return Some((Store::NONE, Cursor { at: self.at + 1 }));
         }
-        Cursor { at: at }.number(text)
+        self.number(text)
     }
 
     // Exactly one space, then a target.
-    pub fn target_word(self, text: &[u8]) -> Taken
+    #[tactic(auto, using(crate::specs::Says::target_space, crate::specs::Says::target_other))]
+    pub fn target_word(self, text: &[u8]) -> Option<(u16, Cursor)>
         requires { (self.at < length text.now) × Closed text.now }
         ensures { (word_of text.now result ≡ target_word (drop self.at text.now)) × (place_of result < length text.now) }
     {
-        let at = self.at;
-        if text[at] == 32 {
-            return Cursor { at: at + 1 }.target(text);
-        }
-        Taken::Bad
+        self.space(text)?.target(text)
     }
 }
 
-// What a line names last.
-#[derive(Drop)]
-enum Named {
-    // A piece or a seat, with byte 10 behind it; the place behind that.
-    Last(u16, usize),
-    // Anything else.
-    Nothing,
-}
-
-// The one word that is left of a line.
-fn name_line(text: &[u8], at: usize) -> Named
+// The one word that is left of a line, with byte 10 behind it, and the place behind that.
+fn name_line(text: &[u8], at: usize) -> Option<(u16, usize)>
     requires { (at < length text.now) × Closed text.now }
     ensures { Names text.now at result }
 {
-    let Taken::Number(p, c) = (Cursor { at: at }).word(text) else {
-        return Named::Nothing;
-    };
+    let (p, c) = Cursor { at }.word(text)?;
     let end = c.at;
-    if text[end] != 10 {
-        return Named::Nothing;
+    if text[end] != b'\n' {
+        return None;
     }
-    Named::Last(p, end + 1)
+    Some((p, end + 1))
 }
 
 // The seat that a line names behind its piece, which ends there: without a seat, seat 0 acts.
-fn seat_line(text: &[u8], end: usize) -> Named
+fn seat_line(text: &[u8], end: usize) -> Option<(u16, usize)>
     requires { (end < length text.now) × Closed text.now }
     ensures { Seats text.now end result }
 {
-    if text[end] == 10 {
-        return Named::Last(0, end + 1);
+    if text[end] == b'\n' {
+        return Some((0, end + 1));
     }
     name_line(text, end)
 }
 
 // A line `n` behind its first byte.
-fn new_line(text: &[u8], at: usize) -> Found
+fn new_line(text: &[u8], at: usize) -> Option<(Command, usize)>
     requires { at < length text.now }
     ensures { (front_of text.now result ≡ ended_by New (drop at text.now)) × (next_of result ≤ length text.now) }
 {
-    if text[at] == 10 {
-        Found::Right(Command::New, at + 1)
-    } else {
-        Found::Other
+    if text[at] != b'\n' {
+        return None;
     }
+    Some((Command::New, at + 1))
 }
 
 // A line `s P K T` behind its first byte.
-fn set_line(text: &[u8], at: usize) -> Found
+fn set_line(text: &[u8], at: usize) -> Option<(Command, usize)>
     requires { (at < length text.now) × Closed text.now }
     ensures { (front_of text.now result ≡ set_piece_by (word (drop at text.now))) × (next_of result ≤ length text.now) }
 {
-    let Taken::Number(p, c) = (Cursor { at: at }).word(text) else {
-        return Found::Other;
-    };
-    let Taken::Number(k, d) = c.word(text) else {
-        return Found::Other;
-    };
-    let Taken::Number(t, e) = d.target_word(text) else {
-        return Found::Other;
-    };
+    let (p, c) = Cursor { at }.word(text)?;
+    let (k, d) = c.word(text)?;
+    let (t, e) = d.target_word(text)?;
     let end = e.at;
-    if text[end] != 10 {
-        return Found::Other;
+    if text[end] != b'\n' {
+        return None;
     }
-    Found::Right(Command::Set { p: p, k: k, t: t }, end + 1)
+    Some((Command::Set { p, k, t }, end + 1))
 }
 
-// What the line at a place says, if it is right. The first byte of the line chooses the command.
-pub fn read(text: &[u8], at: usize) -> Found
+// What the line at a place says, if it is right, and the place behind its end. The first byte of the line chooses the command.
+pub fn read(text: &[u8], at: usize) -> Option<(Command, usize)>
     requires { (at < length text.now) × Closed text.now }
     ensures { Reads text.now at result }
 {
-    let b = text[at];
-    match b {
+    // One helper for `f`, `a` and `r`, a closure that makes the command, and `?` here were tried: each line took 16 to 25 instructions more.
+    match text[at] {
         b'n' => new_line(text, at + 1),
         b's' => set_line(text, at + 1),
         b'f' => {
-            let Taken::Number(p, c) = (Cursor { at: at + 1 }).word(text) else {
-                return Found::Other;
+            let Some((p, c)) = Cursor { at: at + 1 }.word(text) else {
+                return None;
             };
-            match seat_line(text, c.at) {
-                Named::Last(seat, next) => Found::Right(Command::Freeze { p: p, seat: seat }, next),
-                Named::Nothing => Found::Other,
-            }
+            let Some((seat, next)) = seat_line(text, c.at) else {
+                return None;
+            };
+            Some((Command::Freeze { p, seat }, next))
         }
         b'a' => {
-            let Taken::Number(p, c) = (Cursor { at: at + 1 }).word(text) else {
-                return Found::Other;
+            let Some((p, c)) = Cursor { at: at + 1 }.word(text) else {
+                return None;
             };
-            match seat_line(text, c.at) {
-                Named::Last(seat, next) => Found::Right(
-                    Command::Acquire { p: p, seat: seat },
-                    next,
-                ),
-                Named::Nothing => Found::Other,
-            }
+            let Some((seat, next)) = seat_line(text, c.at) else {
+                return None;
+            };
+            Some((Command::Acquire { p, seat }, next))
         }
         b'r' => {
-            let Taken::Number(p, c) = (Cursor { at: at + 1 }).word(text) else {
-                return Found::Other;
+            let Some((p, c)) = Cursor { at: at + 1 }.word(text) else {
+                return None;
             };
-            match seat_line(text, c.at) {
-                Named::Last(seat, next) => Found::Right(
-                    Command::Release { p: p, seat: seat },
-                    next,
-                ),
-                Named::Nothing => Found::Other,
-            }
+            let Some((seat, next)) = seat_line(text, c.at) else {
+                return None;
+            };
+            Some((Command::Release { p, seat }, next))
         }
-        b'b' => match name_line(text, at + 1) {
-            Named::Last(p, next) => Found::Right(Command::Bin(p), next),
-            Named::Nothing => Found::Other,
-        },
-        b'l' => match name_line(text, at + 1) {
-            Named::Last(p, next) => Found::Right(Command::Look(p), next),
-            Named::Nothing => Found::Other,
-        },
-        _ => Found::Other,
+        b'b' => {
+            let Some((p, next)) = name_line(text, at + 1) else {
+                return None;
+            };
+            Some((Command::Bin(p), next))
+        }
+        b'l' => {
+            let Some((p, next)) = name_line(text, at + 1) else {
+                return None;
+            };
+            Some((Command::Look(p), next))
+        }
+        _ => None,
     }
 }

@@ -2,48 +2,30 @@
 #![tactic(auto)]
 
 ghost use Rattle.std.specs.Prelude.{[]};
-ghost use Rattle.rules.specs.Tables.{tables_of};
 ghost use Rattle.rules.specs.Calls.{Ready, saw};
 ghost use Rattle.rules.specs.declared.Command.TheVariants.{Look};
 ghost use Rattle.laws.specs.ByTables.{DidTables, tables_effect};
+ghost use Rattle.areas.specs.Read.{told};
 
-use naming::Name;
-use rules::Seen;
+use areas::Tables;
+use rules::{Piece, Seen};
 
 // State, leader, count of its group, holds of P; for a draft 1, none, 0, 0.
-pub fn look(
-    n: usize,
-    states: &[u8],
-    links: &[u16],
-    leaders: &[u16],
-    holds: &[u16],
-    counts: &[u32],
-    p: u16,
-) -> Seen
-    requires { Ready (tables_of n states.now links.now leaders.now holds.now counts.now) }
-    ensures { DidTables (Look p) (tables_of n states.now links.now leaders.now holds.now counts.now) []
-        (tables_effect (saw result) (tables_of n states.now links.now leaders.now holds.now counts.now) []) }
+#[tactic(auto, using(naming::specs::Told::piece_named))]
+pub fn look(tables: Tables, p: u16) -> Seen
+    requires { Ready (told tables) }
+    ensures { DidTables (Look p) (told tables.entry) [] (tables_effect (saw result) (told tables.entry) []) }
 {
-    match naming::piece(n, states, p) {
-        Name::Wrong(refusal) => return Seen::Unseen(refusal),
-        Name::Right => {}
-    }
+    naming::piece(tables.n, tables.states, p)?;
     let q = p as usize;
-    let state = states[q];
-    let leader = leaders[q];
+    let leader = tables.leaders[q];
     let l = leader as usize;
-    if n <= l {
-        return Seen::Piece {
-            state: state,
-            leader: leader,
-            count: 0,
-            holds: holds[q],
-        };
-    }
-    Seen::Piece {
-        state: state,
-        leader: leader,
-        count: counts[l],
-        holds: holds[q],
-    }
+    // A leader of none has no count.
+    let count = tables.counts.get(l).copied().unwrap_or(0);
+    Ok(Piece {
+        state: tables.states[q],
+        leader,
+        count,
+        holds: tables.holds[q],
+    })
 }

@@ -6,59 +6,52 @@ ghost use Rattle.naming.specs.Told.{ToldPiece, ToldLink};
 
 use rules::{Refusal, Store};
 
-// What is told of the names.
-#[derive(Drop)]
-pub enum Name {
-    // The first refusal that applies to them.
-    Wrong(Refusal),
-    // None does.
-    Right,
-}
-
 // Whether P names a piece: NUMBER, FREE.
-pub fn piece(n: usize, states: &[u8], p: u16) -> Name
+#[tactic(auto, using(crate::specs::Told::told_piece))]
+pub fn piece(n: usize, states: &[u8], p: u16) -> Result<(), Refusal>
     requires { length states.now ≡ n }
     ensures { ToldPiece n states.now p result }
 {
     let at = p as usize;
     if n <= at {
-        return Name::Wrong(Refusal::Number);
+        return Err(Refusal::Number);
     }
     if states[at] == Store::FREE {
-        return Name::Wrong(Refusal::Free);
+        return Err(Refusal::Free);
     }
-    Name::Right
+    Ok(())
 }
 
 // Whether P names a piece, K one of its places, and T none or a piece: NUMBER, PLACE, TARGET, FREE, FREETARGET.
-pub fn link(n: usize, states: &[u8], p: u16, k: u16, t: u16) -> Name
+#[tactic(auto, using(crate::specs::Told::told_link))]
+pub fn link(n: usize, states: &[u8], p: u16, k: u16, t: u16) -> Result<(), Refusal>
     requires { length states.now ≡ n }
     ensures { ToldLink n states.now p k t result }
 {
     let at = p as usize;
     if n <= at {
-        return Name::Wrong(Refusal::Number);
+        return Err(Refusal::Number);
     }
     let place = k as usize;
     if Store::LINKS <= place {
-        return Name::Wrong(Refusal::Place);
+        return Err(Refusal::Place);
     }
     // A T of none is not looked up.
     if t == Store::NONE {
         if states[at] == Store::FREE {
-            return Name::Wrong(Refusal::Free);
+            return Err(Refusal::Free);
         }
-        return Name::Right;
+        return Ok(());
     }
     let to = t as usize;
     if n <= to {
-        return Name::Wrong(Refusal::Target);
+        return Err(Refusal::Target);
     }
     if states[at] == Store::FREE {
-        return Name::Wrong(Refusal::Free);
+        return Err(Refusal::Free);
     }
     if states[to] == Store::FREE {
-        return Name::Wrong(Refusal::FreeTarget);
+        return Err(Refusal::FreeTarget);
     }
-    Name::Right
+    Ok(())
 }

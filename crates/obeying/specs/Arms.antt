@@ -7,7 +7,6 @@ use Rattle.rules.specs.Commands.{Verdict, accepted, refused, verdict, settles, m
 use Rattle.rules.specs.Calls.{Reply, answered, Effect, effect, effected, effect_of, ReadyStore, Did}
 use Rattle.rules.specs.declared.Command.{Command}
 use Rattle.rules.specs.declared.Command.TheVariants.{New, Set, Freeze, Acquire, Release, Bin, Look}
-use Rattle.rules.specs.declared.Answer.{Answer}
 use Rattle.laws.specs.Commands.{after-n}
 use Rattle.laws.specs.Calls.{ready_tables}
 use Rattle.laws.specs.Verdicts.{any-list}
@@ -18,6 +17,7 @@ use Rattle.areas.specs.Lowest.{NoneFree}
 use Rattle.obeying.specs.Obeyed.{Stands, Obeys, above_of, Lower, LowerBin}
 use Rattle.obeying.specs.Freed.{freed_listed, listed-length}
 use Rattle.obeying.specs.From.{still_none, new_none}
+use Rattle.rules.specs.Replies.{Answer}
 
 -- the store after a command
 pub store_after_lem : {c : Command} {s s' : Store} {l l' : List ℕ} {a : Reply} → Did c s l (effect a s' l') → s' ≡ step_to s c

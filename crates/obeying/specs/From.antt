@@ -1,5 +1,5 @@
 -- The number below which nothing is free, after a command.
-use Rattle.std.specs.Prelude.{◌≡◌, ◌⊎◌, List, [], ◌∷◌, ◌++◌, ℕ, suc, ◌+◌, ◌≤◌, ◌<◌, T, length, get_or, drop, set}
+use Rattle.std.specs.Prelude.{◌≡◌, ◌⊎◌, List, [], ◌∷◌, ◌++◌, ℕ, suc, ◌+◌, ◌≤◌, ◌<◌, T, length, get_or, drop, set, Err}
 use Rattle.std.proofs.Math.Path.{refl, subst}
 use Rattle.std.proofs.Common.{sym, ◌∙◌, ⊎_elim, get_or-set_same, get_or-set_other}
 use Rattle.std.proofs.Math.Logic.{inl, inr}
@@ -13,8 +13,6 @@ use Rattle.rules.specs.Calls.{Reply, answered, Effect, effect, effected, effect_
 use Rattle.rules.specs.History.{is_accepted, freed_in}
 use Rattle.rules.specs.declared.Command.{Command}
 use Rattle.rules.specs.declared.Command.TheVariants.{New, Bin}
-use Rattle.rules.specs.declared.Answer.{Answer}
-use Rattle.rules.specs.declared.Answer.TheVariants.{Refused}
 use Rattle.laws.specs.Below.{among_nil, among_cons, Lowest}
 use Rattle.laws.specs.Words.{eqb_of}
 use Rattle.laws.specs.Passes.{Passes, passes}
@@ -28,6 +26,7 @@ use Rattle.tallies.specs.Stores.{good_of}
 use Rattle.areas.specs.Lowest.{NoneFree}
 use Rattle.obeying.specs.Obeyed.{Stands, above_of}
 use Rattle.obeying.specs.Freed.{accepted_freed}
+use Rattle.rules.specs.Replies.{Answer}
 
 -- ---- the first of an ascending list is the lowest
 
@@ -137,7 +136,7 @@ module _ {s : Store} {l w : List ℕ} {from : ℕ} (stands : Stands s.tables.bas
   new_by l₀ accepted e a y =
       let x : done_by s.tables.base New ≡ a = cc y in
       subst (λ (d : Answer). Above d (next_store s New)) x (given-none (passes s.tables.base New (accepts_other refl e).tables))
-  new_by l₀ (refused r) e a y = let x : Refused r ≡ a = cc y in subst (λ (d : Answer). Above d s) x (stands.small, stands.none)
+  new_by l₀ (refused r) e a y = let x : Err r ≡ a = cc y in subst (λ (d : Answer). Above d s) x (stands.small, stands.none)
 
   pub new_none : {a : Answer} {s' : Store} {l₀ l' : List ℕ} → Did New s l₀ (effect (answered a) s' l') → Above a s'
   unfolding effect_of

@@ -1,3 +1,4 @@
+pub mod Standing
 pub mod Obeyed
 pub mod Freed
 pub mod From

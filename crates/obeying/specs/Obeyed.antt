@@ -1,14 +1,13 @@
 -- What obeying a command means: what stands before it and again after it, and the number below which nothing is then free.
-use Rattle.std.specs.Prelude.{List, ℕ, ◌+◌, ◌*◌, ◌≤◌, ◌<◌, T, length, get_or}
+use Rattle.std.specs.Prelude.{List, ℕ, ◌+◌, ◌*◌, ◌≤◌, ◌<◌, T, length, get_or, Ok, Err}
 use Rattle.rules.specs.Tables.{Store}
 use Rattle.rules.specs.Calls.{Reply, answered, saw, effect, ReadyStore, Did}
 use Rattle.rules.specs.History.{is_accepted, freed_in}
 use Rattle.rules.specs.declared.Command.{Command}
-use Rattle.rules.specs.declared.Answer.{Answer}
-use Rattle.rules.specs.declared.Answer.TheVariants.{Done, Refused}
 use Rattle.areas.specs.Lowest.{NoneFree}
 use Rattle.obeying.specs.declared.Reply as code
 use Rattle.obeying.specs.declared.Reply.TheVariants.{Answered, Saw}
+use Rattle.rules.specs.Replies.{Answer}
 
 abbrev pub reply_of : code.Reply → Reply
 reply_of (Answered a) = answered a
@@ -29,8 +28,8 @@ pub record Obeys (c : Command) (s : Store) (l w : List ℕ) (r : Reply) (s' : St
 
 -- above the number that new gave out; `from` where it was refused
 abbrev pub above_of : Answer → ℕ → ℕ
-above_of (Done v f) from = v + 1
-above_of (Refused r) from = from
+above_of (Ok d) from = d.value + 1
+above_of (Err r) from = from
 
 -- r is at most `from` and the first of the numbers freed
 pub record Lower (a : Answer) (list : List ℕ) (from r : ℕ) : Type 0 where

@@ -1,5 +1,5 @@
 -- The C calls are histories: what a call through this door gives is a step of a history, accepted exactly if its number tells refusal 0.
-use Rattle.std.specs.Prelude.{◌≡◌, ◌≢◌, not, List, ◌∷◌, ℕ, ◌%◌, ◌≤◌, T}
+use Rattle.std.specs.Prelude.{◌≡◌, ◌≢◌, true, false, not, List, ◌∷◌, ℕ, ◌%◌, ◌≤◌, T, Ok, Err}
 use Rattle.std.proofs.Common.{sym, ap, ◌∙◌, arith}
 use Rattle.rules.specs.Limits.{most}
 use Rattle.rules.specs.Tables.{Store}
@@ -8,9 +8,6 @@ use Rattle.rules.specs.Trace.{Given, lent_trace}
 use Rattle.rules.specs.History.{Event, event, is_accepted, History, refusing, accepting, Listing}
 use Rattle.rules.specs.declared.Refusal.{Refusal}
 use Rattle.rules.specs.declared.Refusal.TheVariants.{Size, Unsound, Number, Free, State, Limit, NotHeld, Linked, Full, Long, Room, Seat, NotYours, Register, Place, Target, FreeTarget}
-use Rattle.rules.specs.declared.Answer.TheVariants.{Done, Refused}
-use Rattle.rules.specs.declared.Seen.TheVariants.{Piece, Unseen}
-use Rattle.rules.specs.declared.Checked.TheVariants.{Yes, No, Unchecked}
 use Rattle.demands.specs.Demand3.{demand3}
 use Rattle.pieces.specs.Packed.{Packs}
 use Rattle.pieces.specs.Told.{Told, told_answer, told_seen, told_checked, number_tells}
@@ -46,23 +43,22 @@ numbered FreeTarget e = omega arith
 -- the lowest byte of the number is 0 exactly if the call was accepted
 told_accepted : (r : ℕ) (x : Reply) → Told r x → r % 256 ≡ 0 → T (is_accepted x)
 unfolding is_accepted
-told_accepted r (answered (Done v f)) t e = tt
-told_accepted r (answered (Refused q)) (told_answer _ t) e = absurd (numbered q (sym t.refusal ∙ e))
-told_accepted r (saw (Piece s l c h)) t e = tt
-told_accepted r (saw (Unseen q)) (told_seen _ t) e = absurd (numbered q (sym t.refusal ∙ e))
-told_accepted r (checked Yes) t e = tt
-told_accepted r (checked No) t e = tt
-told_accepted r (checked (Unchecked q)) (told_checked _ t) e = absurd (numbered q (sym t.refusal ∙ e))
+told_accepted r (answered (Ok d)) t e = tt
+told_accepted r (answered (Err q)) (told_answer _ t) e = absurd (numbered q (sym t.refusal ∙ e))
+told_accepted r (saw (Ok p)) t e = tt
+told_accepted r (saw (Err q)) (told_seen _ t) e = absurd (numbered q (sym t.refusal ∙ e))
+told_accepted r (checked (Ok sound)) t e = tt
+told_accepted r (checked (Err q)) (told_checked _ t) e = absurd (numbered q (sym t.refusal ∙ e))
 
 told_refused : (r : ℕ) (x : Reply) → Told r x → r % 256 ≢ 0 → T (not (is_accepted x))
 unfolding is_accepted
-told_refused r (answered (Done v f)) (told_answer _ t) e = absurd (e t.refusal)
-told_refused r (answered (Refused q)) t e = tt
-told_refused r (saw (Piece s l c h)) (told_seen _ t) e = absurd (e t.refusal)
-told_refused r (saw (Unseen q)) t e = tt
-told_refused r (checked Yes) (told_checked _ t) e = absurd (e t.refusal)
-told_refused r (checked No) (told_checked _ t) e = absurd (e t.refusal)
-told_refused r (checked (Unchecked q)) t e = tt
+told_refused r (answered (Ok d)) (told_answer _ t) e = absurd (e t.refusal)
+told_refused r (answered (Err q)) t e = tt
+told_refused r (saw (Ok p)) (told_seen _ t) e = absurd (e t.refusal)
+told_refused r (saw (Err q)) t e = tt
+told_refused r (checked (Ok true)) (told_checked _ t) e = absurd (e t.refusal)
+told_refused r (checked (Ok false)) (told_checked _ t) e = absurd (e t.refusal)
+told_refused r (checked (Err q)) t e = tt
 
 -- ---- the steps of a history by C calls
 

@@ -1,5 +1,5 @@
 -- An accepted look is of sound tables: its holds and its count are small, so its number fits.
-use Rattle.std.specs.Prelude.{◌≡◌, refl, List, ℕ, ◌≤◌, ◌<◌, T, length, get_or}
+use Rattle.std.specs.Prelude.{◌≡◌, refl, List, ℕ, ◌≤◌, ◌<◌, T, length, get_or, Ok, Err}
 use Rattle.std.proofs.Common.{ap, subst, ⊎_elim, arith}
 use Rattle.std.proofs.Math.ListN.{get_or-eq_default}
 use Rattle.rules.specs.Limits.{most_holds}
@@ -9,12 +9,11 @@ use Rattle.rules.specs.Calls.{does, Areas, seen_values_of, Reply, saw, Outcome, 
 use Rattle.rules.specs.History.{is_accepted}
 use Rattle.rules.specs.declared.Command.{Command}
 use Rattle.rules.specs.declared.Command.TheVariants.{Look}
-use Rattle.rules.specs.declared.Seen.{Seen}
-use Rattle.rules.specs.declared.Seen.TheVariants.{Piece, Unseen}
 use Rattle.laws.specs.Calls.{lent_sized, accepted_judged, accepted_outcome, judged}
 use Rattle.laws.specs.Numbers.{lt_or}
 use Rattle.demands.specs.Sound.{sound_store→}
 use Rattle.tallies.specs.Stores.{holds_most, counts_most}
+use Rattle.rules.specs.Replies.{Seen}
 
 -- The largest possible count is below 1,028,097; 1,000 holds a piece
 pub record Fitting (s : Seen) : Type 0 where
@@ -45,14 +44,14 @@ accepted_saw a p e = rw (accepted_outcome a (does (Look p)) e) (unfold accepted_
 
 -- what look answers fits its number
 pub look_fits : {a after : Areas} {p : ℕ} {s : Seen} → Promise (does (Look p)) a (outcome (saw s) after) → Fitting s
-look_fits {s = Unseen r} q = record { count = omega arith; holds = omega arith }
-look_fits {a} {p = p} {s = Piece s l c h} q = rw same (seen_fitting (accepted_ready a (Look p) j) p)
+look_fits {s = Err r} q = record { count = omega arith; holds = omega arith }
+look_fits {a} {p = p} {s = Ok x} q = rw same (seen_fitting (accepted_ready a (Look p) j) p)
   where
-    e : saw (Piece s l c h) ≡ (outcome_of a (does (Look p))).reply
+    e : saw (Ok x) ≡ (outcome_of a (does (Look p))).reply
     e = ap (λ (o : Outcome). o.reply) q.exact
 
     j : judge a (does (Look p)) ≡ accepted
     j = accepted_judged a (does (Look p)) (subst (λ (r : Reply). T (is_accepted r)) e (unfold is_accepted in tt))
 
-    same : Piece s l c h ≡ seen_at a.store.tables p
+    same : Ok x ≡ seen_at a.store.tables p
     same = cc (e, accepted_saw a p j)

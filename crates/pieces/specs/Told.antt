@@ -1,5 +1,5 @@
 -- The u64 of every call tells the rulebook's number and values: each part stands in its own bits.
-use Rattle.std.specs.Prelude.{◌≡◌, refl, Bool, true, false, ℕ, ◌/◌, ◌%◌, ◌≤◌, ◌<◌}
+use Rattle.std.specs.Prelude.{◌≡◌, refl, Bool, true, false, ℕ, ◌/◌, ◌%◌, ◌≤◌, ◌<◌, Ok, Err}
 use Rattle.std.proofs.Common.{sym, subst, arith}
 use Rattle.rules.specs.Tests.{pick}
 use Rattle.rules.specs.Limits.{none}
@@ -9,15 +9,10 @@ use Rattle.rules.specs.Calls.{Values, values_of, SeenValues, seen_values_of, Che
 use Rattle.rules.specs.Calls.{Call, start, does, check, Areas, Ready, judge, refused_by, refused_call, seen_at, done_by, accepted_by, cleared, accepted_call, ended, outcome_of}
 use Rattle.rules.specs.declared.Refusal.{Refusal}
 use Rattle.rules.specs.declared.Command.TheVariants.{New, Set, Freeze, Acquire, Release, Bin, Look}
-use Rattle.rules.specs.declared.Answer.{Answer}
-use Rattle.rules.specs.declared.Answer.TheVariants.{Done, Refused}
-use Rattle.rules.specs.declared.Seen.{Seen}
-use Rattle.rules.specs.declared.Seen.TheVariants.{Unseen}
-use Rattle.rules.specs.declared.Checked.{Checked}
-use Rattle.rules.specs.declared.Checked.TheVariants.{Yes, No, Unchecked}
 use Rattle.pieces.specs.Packed.{packed, Packs}
 use Rattle.pieces.specs.Looks.{Fitting, seen_fitting, accepted_ready}
 use Rattle.pieces.specs.Parts.{number_fits, free_fits, state-fits, leader-fits}
+use Rattle.rules.specs.Replies.{Answer, Checked, Seen, done}
 
 -- ---- how a number is taken apart
 
@@ -55,8 +50,8 @@ checked_told c h l = told_checked c (record { refusal = omega arith; yes = omega
 
 -- ---- every reply
 
-refused_answer : (r : Refusal) → Told (packed (answered (Refused r))) (answered (Refused r))
-refused_answer r = answer_told (Refused r) (number_fits r) (omega arith)
+refused_answer : (r : Refusal) → Told (packed (answered (Err r))) (answered (Err r))
+refused_answer r = answer_told (Err r) (number_fits r) (omega arith)
 
 refused_told : (r : Refusal) (c : Call) → Told (packed (refused_call r c)) (refused_call r c)
 unfolding refused_call refused_by
@@ -67,20 +62,20 @@ refused_told r (does (Freeze p seat)) = refused_answer r
 refused_told r (does (Acquire p seat)) = refused_answer r
 refused_told r (does (Release p seat)) = refused_answer r
 refused_told r (does (Bin p)) = refused_answer r
-refused_told r (does (Look p)) = seen_told (Unseen r) (number_fits r) (omega arith) (omega arith) (record { count = omega arith; holds = omega arith })
-refused_told r check = checked_told (Unchecked r) (number_fits r) (omega arith)
+refused_told r (does (Look p)) = seen_told (Err r) (number_fits r) (omega arith) (omega arith) (record { count = omega arith; holds = omega arith })
+refused_told r check = checked_told (Err r) (number_fits r) (omega arith)
 
 -- an accepted command but look
-done_told : (v f : ℕ) → v ≤ none → Told (packed (answered (Done v f))) (answered (Done v f))
-done_told v f h = answer_told (Done v f) (omega arith) h
+done_told : (v f : ℕ) → v ≤ none → Told (packed (answered (done v f))) (answered (done v f))
+done_told v f h = answer_told (done v f) (omega arith) h
 
 saw_told : {s : Tables} → Ready s → (p : ℕ) → Told (packed (saw (seen_at s p))) (saw (seen_at s p))
 unfolding seen_at
 saw_told {s} o p = seen_told (seen_at s p) (omega arith) (state-fits o p) (leader-fits o p) (seen_fitting o p)
 
-checks_told : (b : Bool) → Told (packed (checked (pick b Yes No))) (checked (pick b Yes No))
-checks_told true = checked_told Yes (omega arith) (omega arith)
-checks_told false = checked_told No (omega arith) (omega arith)
+checks_told : (b : Bool) → Told (packed (checked (pick b (Ok true) (Ok false)))) (checked (pick b (Ok true) (Ok false)))
+checks_told true = checked_told (Ok true) (omega arith) (omega arith)
+checks_told false = checked_told (Ok false) (omega arith) (omega arith)
 
 accepted_told : (a : Areas) (c : Call) → judge a c ≡ accepted → Told (packed (accepted_call (cleared a c) c).reply) (accepted_call (cleared a c) c).reply
 unfolding accepted_call accepted_by cleared done_by value_of

@@ -1,4 +1,5 @@
 // The door for C: the nine calls, each with N, the areas in the rulebook's order, then P, K, T or P and the seat. Each answers one u64.
+// The C interface wants a function for each call, and each area by itself.
 #![tactic(auto)]
 
 ghost use Rattle.std.specs.Prelude.{◌≡◌, []};

@@ -1,15 +1,9 @@
 -- Blocks of a text: what is known of the bytes that are passed.
-use Rattle.std.specs.Prelude.{◌≡◌, ◌⊎◌, List, ℕ, ◌+◌, ◌-◌, ◌*◌, ◌/◌, ◌%◌, ◌≤◌, ◌<◌, length, get_or}
-use Rattle.std.proofs.Common.{sym, ap, ◌∙◌, subst, ⊎_elim, arith}
-use Rattle.laws.specs.Numbers.{eq_or, lt_or}
+use Rattle.std.specs.Prelude.{◌≡◌, Bool, false, List, ℕ, ◌+◌, ◌-◌, ◌*◌, ◌/◌, ◌%◌, ◌≤◌, ◌<◌, length, get_or, take, drop}
+use Rattle.std.proofs.Common.{sym, ap, ◌∙◌, subst, arith, length-take, length-drop, get_or-take, get_or-drop}
+use Rattle.std.specs.List.{AllWithin, HoldsAt}
 use Rattle.lines.specs.Ending.{Closed}
-use Rattle.reader.specs.Lines.{NoEnd, LineEnd, Whole, whole_at, whole_none, block_inside, no_end_join}
-
--- r is the lower of two numbers
-pub record Lower (a b r : ℕ) : Type 0 where
-  pub first : r ≤ a
-  pub second : r ≤ b
-  pub one : (r ≡ a) ⊎ (r ≡ b)
+use Rattle.reader.specs.Lines.{NoEnd, LineEnd, block_inside, no_end_join}
 
 -- no byte of so many from `at` on, each 16 behind the one before, is lower than r
 abbrev pub Lowest : List ℕ → ℕ → ℕ → ℕ → Type 0
@@ -18,6 +12,11 @@ Lowest text at many r = (j : ℕ) → j < many → r ≤ get_or text (at + 16 * 
 -- all bytes of the first i rows of 32 are higher than 10, each byte of a row 16 behind the one before
 abbrev pub High : List ℕ → ℕ → ℕ → Type 0
 High text at i = (l : ℕ) → l < i → (j : ℕ) → j < 32 → 10 < get_or text (at + l + 16 * j) 0
+
+-- a test of blocks of this size: it may be asked of each block of the text, and no line ends in one of which it says no
+pub record Tells (text : List ℕ) (size : ℕ) (asked : ℕ → Type 0) (said : ℕ → Bool → Type 0) : Type 0 where
+  pub may : (i : ℕ) → i + size ≤ length text → asked i
+  pub no : (i : ℕ) → i + size ≤ length text → said i false → NoEnd text i (i + size)
 
 -- r is the number where the byte is 10, else 255
 pub record IfEnd (b number r : ℕ) : Type 0 where
@@ -38,49 +37,12 @@ pub record Back (text : List ℕ) (to r : ℕ) : Type 0 where
 
 -- ---- laws
 
-pub lowest-more : (text : List ℕ) (at j : ℕ) {m r : ℕ} → Lowest text at j m → Lower m (get_or text (at + 16 * j) 0) r → Lowest text at (j + 1) r
-lowest-more text at j {m} {r} h w k l =
-    ⊎_elim (λ e. subst (λ (i : ℕ). r ≤ get_or text (at + 16 * i) 0) (sym e) w.second) (λ d. omega (arith, w.first, h k (omega (arith, d)))) (eq_or k j)
-
-pub high_more : (text : List ℕ) (at i m : ℕ) → High text at i → Lowest text (at + i) 32 m → 10 < m → High text at (i + 1)
-high_more text at i m h w g l b j s =
-    ⊎_elim (λ e. subst (λ (k : ℕ). 10 < get_or text (at + k + 16 * j) 0) (sym e) (omega (arith, w j s))) (λ d. h l (omega (arith, d)) j s) (eq_or l i)
-
 pub high_all : (text : List ℕ) (at : ℕ) → High text at 16 → NoEnd text at (at + 512)
 high_all text at h i a b e =
     let k = i - at in
     let there : at + k % 16 + 16 * (k / 16) ≡ i = omega arith in
     let x : 10 < get_or text i 0 = subst (λ (m : ℕ). 10 < get_or text m 0) there (h (k % 16) (omega arith) (k / 16) (omega arith)) in
     omega (arith, x, e)
-
--- a block before those that are passed
-pub high_back : (text : List ℕ) (k : ℕ) → 0 < k → NoEnd text (512 * (k - 1)) (512 * (k - 1) + 512) → NoEnd text (512 * k) (length text)
-    → NoEnd text (512 * (k - 1)) (length text)
-high_back text k h u v = no_end_join text (512 * (k - 1)) (512 * k) (length text) (λ i a b. u i a (omega arith)) v
-
-pub first-none : {text : List ℕ} {at : ℕ} → FirstEnd text at 0 255
-first-none = record { before = λ j l. absurd (omega arith); is = λ l. absurd (omega arith) }
-
-pub first_more : {text : List ℕ} {at i m v r : ℕ} → FirstEnd text at i m → i < 64 → IfEnd (get_or text (at + i) 0) i v → Lower m v r → FirstEnd text at (i + 1) r
-first_more {text} {at} {i} {m} {v} {r} f s w x = ⊎_elim yes no (eq_or (get_or text (at + i) 0) 10)
-  where
-    old : r ≡ m → r < 255 → (r < i + 1) × (get_or text (at + r) 0 ≡ 10)
-    old e l = let y = f.is (omega arith) in (omega (arith, y.0), ap (λ (k : ℕ). get_or text (at + k) 0) e ∙ y.1)
-
-    yes : get_or text (at + i) 0 ≡ 10 → FirstEnd text at (i + 1) r
-    yes e = record {
-      before = λ j l h. f.before j (omega (arith, x.second, w.is e)) (omega (arith, x.first));
-      is = λ l. ⊎_elim (λ a. old a l) (λ b. let k : r ≡ i = b ∙ w.is e in (omega arith, ap (λ (q : ℕ). get_or text (at + q) 0) k ∙ e)) x.one;
-    }
-
-    no : (get_or text (at + i) 0 ≡ 10 → ⊥) → FirstEnd text at (i + 1) r
-    no d = record {
-      before = λ j l h z. ⊎_elim (λ a. d (ap (λ (q : ℕ). get_or text (at + q) 0) (sym a) ∙ z)) (λ a. f.before j (omega (arith, a)) (omega (arith, x.first)) z) (eq_or j i);
-      is = λ l. ⊎_elim (λ a. old a l) (λ b. absurd (omega (arith, w.other d))) x.one;
-    }
-
-pub first-all : {text : List ℕ} {at i r : ℕ} → i ≤ 64 → 64 ≤ i → FirstEnd text at i r → FirstEnd text at 64 r
-first-all {text} {at} {i} {r} a b f = let e : i ≡ 64 = omega arith in subst (λ (k : ℕ). FirstEnd text at k r) e f
 
 module _ {text : List ℕ} {at r : ℕ} (room : at + 64 ≤ length text) (f : FirstEnd text at 64 r) where
   -- a line ends in the block
@@ -113,5 +75,55 @@ line_past {text} {at} {mid} {r} h u e = record {
   is = e.is;
 }
 
-pub whole_back : {text : List ℕ} {r : ℕ} → Back text 0 r → Whole text r
-whole_back {r = r} b = ⊎_elim (λ h. whole_at h b.inside (b.is h) b.after) (λ h. whole_none (omega arith) b.after) (lt_or 0 r)
+-- ---- a part of a text, byte by byte
+
+-- the part from `to` up to `from`
+abbrev part : List ℕ → ℕ → ℕ → List ℕ
+part text from to = take (from - to) (drop to text)
+
+module _ (text : List ℕ) (from to : ℕ) where
+  part_size : from ≤ length text → length (part text from to) ≡ from - to
+  part_size h = omega (arith, length-take (from - to) (drop to text), length-drop to text)
+
+  byte_at : (j : ℕ) → to ≤ j → j < from → get_or (part text from to) (j - to) 0 ≡ get_or text j 0
+  byte_at j a b =
+      get_or-take (from - to) (drop to text) (j - to) 0 (omega arith) ∙ get_or-drop to text (j - to) 0
+      ∙ ap (λ (k : ℕ). get_or text k 0) (let x : to + (j - to) ≡ j = omega arith in x)
+
+-- the first byte 10 from a place on
+pub first_at : {text : List ℕ} {at i : ℕ}
+    → (i < length (part text (length text) at)) × HoldsAt (λ b. b ≡ 10) (part text (length text) at) i
+    × AllWithin (λ b. b ≡ 10 → ⊥) (part text (length text) at) 0 i → LineEnd text at (at + i)
+first_at {text} {at} {i} f = record {
+  after = omega arith;
+  inside = inside;
+  before = λ j a b e. f.2 (j - at) 0 (omega arith) (omega arith) (byte_at text (length text) at j a (omega (arith, inside)) ∙ e);
+  is = sym (byte_at text (length text) at (at + i) (omega arith) inside) ∙ (let x : at + i - at ≡ i = omega arith in rw x (f.1 0));
+}
+  where
+    inside : at + i < length text
+    inside = omega (arith, f.0, part_size text (length text) at)
+
+module _ (text : List ℕ) {from to : ℕ} (start : (to ≤ from) × (from ≤ length text) × NoEnd text from (length text)) where
+  size : length (part text from to) ≡ from - to
+  size = part_size text from to start.1
+
+  -- the last byte 10 of the part, or none
+  pub back_some : {i : ℕ}
+      → (i < length (part text from to)) × (get_or (part text from to) i 0 ≡ 10)
+      × ((k : ℕ) → i < k → k < length (part text from to) → get_or (part text from to) k 0 ≡ 10 → ⊥) → Back text to (to + i + 1)
+  back_some {i} f = record {
+    most = omega arith;
+    inside = omega (arith, f.0, size, start.1);
+    after = no_end_join text (to + i + 1) from (length text)
+        (λ j a b e. f.2 (j - to) (omega arith) (omega (arith, size)) (byte_at text from to j (omega arith) b ∙ e)) start.2;
+    is = λ _. sym (byte_at text from to (to + i + 1 - 1) (omega arith) (omega (arith, f.0, size))) ∙ (let x : to + i + 1 - 1 - to ≡ i = omega arith in rw x f.1);
+  }
+
+  pub back_none : ((k : ℕ) → k < length (part text from to) → get_or (part text from to) k 0 ≡ 10 → ⊥) → Back text to to
+  back_none f = record {
+    most = omega arith;
+    inside = omega (arith, start.0, start.1);
+    after = no_end_join text to from (length text) (λ j a b e. f (j - to) (omega (arith, size)) (byte_at text from to j a b ∙ e)) start.2;
+    is = λ h. absurd (omega arith);
+  }

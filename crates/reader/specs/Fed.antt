@@ -1,5 +1,5 @@
 -- A text that is read line by line: what is written and what is left give the whole output, whatever comes after.
-use Rattle.std.specs.Prelude.{◌≡◌, refl, ◌⊎◌, List, [], ◌∷◌, ◌++◌, ℕ, ◌+◌, ◌≤◌, ◌<◌, length, take, drop}
+use Rattle.std.specs.Prelude.{◌≡◌, refl, ◌⊎◌, List, [], ◌∷◌, ◌++◌, ℕ, ◌+◌, ◌≤◌, ◌<◌, length, take, drop, Some, None}
 use Rattle.std.proofs.Common.{sym, ap, ◌∙◌, subst, ⊎_elim, append_assoc, arith, length-append, length-take-le}
 use Rattle.std.proofs.lemmas.List.Edits.{sets-eq}
 use Rattle.std.proofs.Math.Seq.{take-append_seam}
@@ -7,15 +7,12 @@ use Rattle.rules.specs.Tables.{Store}
 use Rattle.laws.specs.Numbers.{lt_or}
 use Rattle.rules.specs.Trace.{lines_from, says, answer_to, store_after, output_of, bad_line}
 use Rattle.rules.specs.declared.Command.{Command}
-use Rattle.rules.specs.declared.Line.{Line}
-use Rattle.rules.specs.declared.Line.TheVariants.{Does}
-use Rattle.lines.specs.Ending.{Reads}
-use Rattle.lines.specs.declared.Found.{Found}
-use Rattle.lines.specs.declared.Found.TheVariants.{Other}
+use Rattle.lines.specs.Ending.{Found, Reads}
 use Rattle.chunks.specs.Chunks.{lines_part, lines_end}
 use Rattle.answers.specs.Wrote.{longest, Wrote}
 use Rattle.reader.specs.Answered.{Stands, Answered, bad_answered}
 use Rattle.reader.specs.Lines.{LineEnd, OneLine, RightLine, line_at, bad_at}
+use Rattle.rules.specs.Replies.{Line}
 
 -- the bytes of the text from `start` up to `at` are answered by the first `written` bytes of out, and the store stands
 pub record Feeding (n : ℕ) (s : Store) (text : List ℕ) (start : ℕ) (s' : Store) (l' w' out' : List ℕ) (at written from : ℕ) : Type 0 where
@@ -90,10 +87,10 @@ feeding_more {text} {line} {start} {next = next} {n} {s = s} {s'} {l' = l'} {w' 
 -- a right line more, or a bad one
 module _ {n : ℕ} {s₀ s : Store} {text l w out : List ℕ} {start at written from : ℕ} (f : Feeding n s₀ text start s l w out at written from) (room : written + longest ≤ length out) where
   pub feeding_right : {c : Command} {s' : Store} {l' w' out' : List ℕ} {next written' from' : ℕ} → RightLine text at next c → length out' ≡ length out
-      → Answered n s (Does c) out written s' l' w' out' written' from' → Feeding n s₀ text start s' l' w' out' next written' from'
+      → Answered n s (Some c) out written s' l' w' out' written' from' → Feeding n s₀ text start s' l' w' out' next written' from'
   feeding_right x len a = feeding_more x.one x.says_is f room len a
 
-  pub feeding_bad : {r : Found} {out' : List ℕ} {end written' : ℕ} → Reads text at r → r ≡ Other → LineEnd text at end → length out' ≡ length out
+  pub feeding_bad : {r : Found} {out' : List ℕ} {end written' : ℕ} → Reads text at r → r ≡ None → LineEnd text at end → length out' ≡ length out
       → Wrote out written bad_line out' written' → Feeding n s₀ text start s l w out' (end + 1) written' from
   feeding_bad h x e len b = feeding_more (line_at e) (bad_at e h x) f room len (bad_answered f.stands b)
 

@@ -1,14 +1,11 @@
 -- The lines of a text whose last byte is 10, by their places.
-use Rattle.std.specs.Prelude.{◌≡◌, refl, Bool, true, false, List, [], ◌∷◌, ◌++◌, ℕ, zero, suc, ◌+◌, ◌-◌, ◌≤◌, ◌<◌, leb, length, get_or, take, drop}
+use Rattle.std.specs.Prelude.{◌≡◌, refl, Bool, true, false, List, [], ◌∷◌, ◌++◌, ℕ, zero, suc, ◌+◌, ◌-◌, ◌≤◌, ◌<◌, leb, length, get_or, take, drop, Some, None}
 use Rattle.std.proofs.Common.{sym, ap, ◌∙◌, subst, arith, add-one, leb-true, leb-false, take-append-drop, length-append, length-drop, drop-drop, drop-cons, get_or-drop, get_or-take, length-take-le}
 use Rattle.std.proofs.Math.Decide.{ℕ_discrete}
 use Rattle.rules.specs.Trace.{says}
 use Rattle.rules.specs.declared.Command.{Command}
-use Rattle.rules.specs.declared.Line.{Line}
-use Rattle.rules.specs.declared.Line.TheVariants.{Does, Bad}
-use Rattle.lines.specs.Ending.{Unended, Closed, right, other, leaving, Reads}
-use Rattle.lines.specs.declared.Found.{Found}
-use Rattle.lines.specs.declared.Found.TheVariants.{Right, Other}
+use Rattle.lines.specs.Ending.{Found, Unended, Closed, right, other, leaving, Reads}
+use Rattle.rules.specs.Replies.{Line}
 
 -- no byte from `at` to before `end` ends a line
 abbrev pub NoEnd : List ℕ → ℕ → ℕ → Type 0
@@ -36,16 +33,6 @@ pub record OneLine (text : List ℕ) (at next : ℕ) (line : List ℕ) : Type 0 
 
 -- ---- laws
 
-pub no_end_none : (text : List ℕ) (at : ℕ) → NoEnd text at at
-no_end_none text at i a b e = omega arith
-
-pub no_end_more : (text : List ℕ) (at end : ℕ) → NoEnd text at end → (get_or text end 0 ≡ 10 → ⊥) → NoEnd text at (end + 1)
-no_end_more text at end h d i a b e = go (ℕ_discrete i end)
-  where
-    go : Dec (i ≡ end) → ⊥
-    go (yes x) = d (subst (λ (j : ℕ). get_or text j 0 ≡ 10) x e)
-    go (no x) = h i a (omega arith) e
-
 -- block after block
 pub no_end_join : (text : List ℕ) (at mid end : ℕ) → NoEnd text at mid → NoEnd text mid end → NoEnd text at end
 no_end_join text at mid end a b i l h e = by_test (leb mid i) refl
@@ -54,31 +41,11 @@ no_end_join text at mid end a b i l h e = by_test (leb mid i) refl
     by_test true x = b i (leb-true mid i x) h e
     by_test false x = a i l (leb-false mid i x) e
 
-pub no_end_back_block : (text : List ℕ) (r size : ℕ) → size ≤ r → NoEnd text (r - size) (r - size + size) → NoEnd text r (length text)
-    → NoEnd text (r - size) (length text)
-no_end_back_block text r size p a b = no_end_join text (r - size) r (length text) (λ i l h. a i l (omega arith)) b
-
 -- a text does not end with a block in which no line ends
 pub block_inside : (text : List ℕ) (i size : ℕ) → Closed text → 1 ≤ size → i + size ≤ length text → NoEnd text i (i + size) → i + size < length text
 block_inside text i size c s h u =
     let last = i + (size - 1) in
     let x : last + 1 < length text = c last (omega arith) (u last (omega arith) (omega arith)) in omega arith
-
--- a byte more of a block in which no line ends so far
-pub block_more : (text : List ℕ) (at i : ℕ) → NoEnd text at (at + i) → (get_or text (at + i) 0 ≡ 10 → ⊥) → NoEnd text at (at + (i + 1))
-block_more text at i h d = let x : at + (i + 1) ≡ at + i + 1 = omega arith in subst (NoEnd text at) (sym x) (no_end_more text at (at + i) h d)
-
--- back from the end of a text
-no_end_first : (text : List ℕ) (r : ℕ) → (get_or text r 0 ≡ 10 → ⊥) → NoEnd text (r + 1) (length text) → NoEnd text r (length text)
-no_end_first text r d h i a b e = go (ℕ_discrete i r)
-  where
-    go : Dec (i ≡ r) → ⊥
-    go (yes x) = d (subst (λ (j : ℕ). get_or text j 0 ≡ 10) x e)
-    go (no x) = h i (omega arith) b e
-
-pub no_end_back : (text : List ℕ) (r : ℕ) → 0 < r → (get_or text (r - 1) 0 ≡ 10 → ⊥) → NoEnd text r (length text)
-    → NoEnd text (r - 1) (length text)
-no_end_back text r p d h = no_end_first text (r - 1) d (λ i a b. h i (omega arith) b)
 
 pub closed_last : (text : List ℕ) → (0 < length text → get_or text (length text - 1) 0 ≡ 10) → Closed text
 closed_last text e i l d = go (ℕ_discrete (i + 1) (length text))
@@ -86,25 +53,6 @@ closed_last text e i l d = go (ℕ_discrete (i + 1) (length text))
     go : Dec (i + 1 ≡ length text) → i + 1 < length text
     go (yes x) = absurd (d (let j : i ≡ length text - 1 = omega arith in ap (λ (k : ℕ). get_or text k 0) j ∙ e (omega arith)))
     go (no x) = omega arith
-
-pub whole_at : {text : List ℕ} {r : ℕ} → 0 < r → r ≤ length text → get_or text (r - 1) 0 ≡ 10 → NoEnd text r (length text) → Whole text r
-whole_at {text} {r} p h e u = record {
-  inside = h;
-  closed = closed_last (take r text) (λ _.
-      let n : length (take r text) - 1 ≡ r - 1 = omega (arith, size) in
-      ap (λ (k : ℕ). get_or (take r text) k 0) n ∙ get_or-take r text (r - 1) 0 (omega arith) ∙ e);
-  after = u;
-}
-  where
-    size : length (take r text) ≡ r
-    size = length-take-le r text h
-
-pub whole_none : {text : List ℕ} {r : ℕ} → r ≡ 0 → NoEnd text r (length text) → Whole text r
-whole_none {text} {r} e u = record {
-  inside = omega arith;
-  closed = λ i l d. absurd (omega (arith, length-take-le r text (omega arith)));
-  after = u;
-}
 
 -- a text that ends by byte 10 is all whole lines
 pub whole_all : {text : List ℕ} {r : ℕ} → Whole text r → (0 < length text → get_or text (length text - 1) 0 ≡ 10) → length text ≤ r
@@ -143,12 +91,12 @@ module _ {text : List ℕ} {at end : ℕ} (e : LineEnd text at end) where
           ∙ ap (λ (x : ℕ). x ∷ drop (suc end) text) e.is ∙ ap (λ (m : ℕ). 10 ∷ drop m text) (sym (add-one end))
 
   -- no right line stands there: it is bad
-  pub bad_at : {r : Found} → Reads text at r → r ≡ Other → says line ≡ Bad
+  pub bad_at : {r : Found} → Reads text at r → r ≡ None → says line ≡ None
   bad_at h x = go (says line) ((subst (λ (y : Found). Reads text at y) x h).exact line (drop (end + 1) text) line_at.unended line_at.is)
     where
-      go : (l : Line) → other ≡ leaving l (drop (end + 1) text) → l ≡ Bad
-      go (Does c) y = absurd (let z : ◌≡◌ {A = ℕ} 0 1 = cc y in omega arith)
-      go Bad y = refl
+      go : (l : Line) → other ≡ leaving l (drop (end + 1) text) → l ≡ None
+      go (Some c) y = absurd (let z : ◌≡◌ {A = ℕ} 0 1 = cc y in omega arith)
+      go None y = refl
 
 -- the first line of a text, and what is behind it
 pub record First (text : List ℕ) : Type 0 where
@@ -184,20 +132,20 @@ closed_drop text at c i l x =
 pub record RightLine (text : List ℕ) (at next : ℕ) (c : Command) : Type 0 where
   pub line : List ℕ
   pub one : OneLine text at next line
-  pub says_is : says line ≡ Does c
+  pub says_is : says line ≡ Some c
 
-pub right-at : {text : List ℕ} {at next : ℕ} {r : Found} {c : Command} → Reads text at r → r ≡ Right c next → Closed text → at < length text
+pub right-at : {text : List ℕ} {at next : ℕ} {r : Found} {c : Command} → Reads text at r → r ≡ Some (c, next) → Closed text → at < length text
     → RightLine text at next c
 right-at {text} {at} {next} {c = c} h x closed l = go (first (drop at text) (closed_drop text at closed) (omega (arith, length-drop at text)))
   where
-    read : Reads text at (Right c next)
+    read : Reads text at (Some (c, next))
     read = subst (λ (y : Found). Reads text at y) x h
 
     go : First (drop at text) → RightLine text at next c
     go f = by_line (says f.line) refl (read.exact f.line f.more f.unended f.is)
       where
         by_line : (l : Line) → says f.line ≡ l → right c (drop next text) ≡ leaving l f.more → RightLine text at next c
-        by_line (Does d) e y =
+        by_line (Some d) e y =
             let p : drop next text ≡ f.more = cc y in
             let q : c ≡ d = cc y in
             let z = ap length f.is in
@@ -209,6 +157,6 @@ right-at {text} {at} {next} {c = c} h x closed l = go (first (drop at text) (clo
                 is = f.is ∙ ap (λ (t : List ℕ). f.line ++ (10 ∷ t)) (sym p);
                 unended = f.unended;
               };
-              says_is = e ∙ ap Does (sym q);
+              says_is = e ∙ ap Some (sym q);
             }
-        by_line Bad e y = absurd (let z : ◌≡◌ {A = ℕ} 0 1 = cc y in omega arith)
+        by_line None e y = absurd (let z : ◌≡◌ {A = ℕ} 0 1 = cc y in omega arith)

@@ -1,14 +1,12 @@
 // The trace reader: a line in, a line out, on tables that are sound by proof.
 #![tactic(auto)]
 
-ghost use Rattle.std.specs.Prelude.{◌≡◌, ◌+◌, ◌≤◌, ◌<◌, eqb, length};
+ghost use Rattle.std.specs.Prelude.{◌≡◌, ◌+◌, ◌≤◌, ◌<◌, eqb, length, Some};
 ghost use Rattle.rules.specs.Tests.{◌&◌, only_if};
 ghost use Rattle.rules.specs.Limits.{most};
-ghost use Rattle.rules.specs.Tables.{store_of};
 ghost use Rattle.rules.specs.History.{freed_in};
-ghost use Rattle.rules.specs.declared.Line.TheVariants.{Does};
 ghost use Rattle.lines.specs.Ending.{Closed};
-ghost use Rattle.obeying.specs.Obeyed.{reply_of, Stands};
+ghost use Rattle.obeying.specs.Obeyed.{reply_of};
 ghost use Rattle.answers.specs.Wrote.{longest, Wrote};
 ghost use Rattle.answers.specs.Replies.{reply_line};
 ghost use Rattle.reader.specs.Answered.{Answered};
@@ -17,18 +15,10 @@ ghost use Rattle.reader.specs.Blocks.{Back};
 ghost use Rattle.reader.specs.Fed.{Feeding, Stopped};
 ghost use Rattle.reader.specs.Ended.{Totalled, LastLine};
 
-use lines::Found;
-use obeying::Reply;
+use obeying::{Areas, Reply};
 use rules::{Command, Store};
 
 mod blocks;
-
-// Where the output goes on, and a number below which nothing is free.
-#[derive(Drop)]
-pub struct Step {
-    pub at: usize,
-    pub from: usize,
-}
 
 // Writes the line of a reply.
 fn write_reply(out: &mut [u8], at: usize, reply: Reply, list: &[u16]) -> usize
@@ -41,47 +31,21 @@ fn write_reply(out: &mut [u8], at: usize, reply: Reply, list: &[u16]) -> usize
     }
 }
 
-// Does a command and writes its answer at a place of out.
-fn act(
-    command: Command,
-    n: usize,
-    states: &mut [u8],
-    links: &mut [u16],
-    leaders: &mut [u16],
-    holds: &mut [u16],
-    counts: &mut [u32],
-    register: &mut [u16],
-    into: &mut [u16],
-    list: &mut [u16],
-    work: &mut [u32],
-    from: usize,
-    out: &mut [u8],
-    at: usize,
-) -> Step
-    requires { Stands n (store_of n states.old links.old leaders.old holds.old counts.old register.old into.old) list.old work.old from
-        × (at + longest ≤ length out.old) }
-    ensures { Answered n (store_of n states.old links.old leaders.old holds.old counts.old register.old into.old)
-        (Does command) out.old at
-        (store_of n states.new links.new leaders.new holds.new counts.new register.new into.new)
-        list.new work.new out.new result.at result.from }
+// Does a command and writes its answer at a place of out; answers where the output goes on.
+fn act(command: Command, areas: &mut Areas, out: &mut [u8], at: usize) -> usize
+    requires { at + longest ≤ length out.old }
+    ensures capacity { areas.new.store.tables.base.n ≡ areas.old.store.tables.base.n }
+    ensures answered { Answered areas.old.store.tables.base.n areas.old.store (Some command) out.old at areas.new.store areas.new.list areas.new.work out.new result areas.new.from }
 {
-    let done = obeying::obey(
-        n, states, links, leaders, holds, counts, register, into, list, work, from, command,
-    );
-    let reply = done.reply;
-    let next = write_reply(out, at, reply, list);
-    Step {
-        at: next,
-        from: done.from,
-    }
+    let reply = areas.obey(command);
+    write_reply(out, at, reply, areas.list())
 }
 
-// How far a text was read, how much was written, and a number below which nothing is free.
-#[derive(Drop)]
+// How far a text was read, and how much was written.
+#[derive(Clone, Copy)]
 pub struct Fed {
     pub taken: usize,
     pub written: usize,
-    pub from: usize,
 }
 
 // Where the line that starts at a place ends, byte by byte.
@@ -89,11 +53,7 @@ fn end_by_byte(text: &[u8], at: usize) -> usize
     requires { (at < length text.now) × Closed text.now }
     ensures { LineEnd text.now at result }
 {
-    let mut i = at;
-    while text[i] != 10 {
-        i += 1;
-    }
-    i
+    at + text[at..].iter().position(|b| *b == b'\n').unwrap()
 }
 
 // Where the line that starts at a place ends, most often in the next 64 bytes.
@@ -102,8 +62,7 @@ fn near_end(text: &[u8], at: usize) -> usize
     ensures { LineEnd text.now at result }
 {
     if 64 <= text.len() - at {
-        let first = blocks::first_end(text, at);
-        if first < 64 {
+        if let Some(first) = blocks::first_end(text, at) {
             return at + first;
         }
     }
@@ -118,12 +77,11 @@ fn line_end(text: &[u8], at: usize) -> usize
     if text.len() - at < 64 {
         return end_by_byte(text, at);
     }
-    let first = blocks::first_end(text, at);
-    if first < 64 {
+    if let Some(first) = blocks::first_end(text, at) {
         return at + first;
     }
-    let far = blocks::pass_high(text, 64 * (at / 64 + 1));
-    let near = blocks::pass(text, far, 64);
+    let far = blocks::pass(text, 64 * (at / 64 + 1), 512, |i| blocks::has_low(text, i));
+    let near = blocks::pass(text, far, 64, |i| blocks::ends(text, i, 64));
     near_end(text, near)
 }
 
@@ -132,102 +90,61 @@ fn back(text: &[u8], from: usize, to: usize) -> usize
     requires { (to ≤ from) × (from ≤ length text.now) × NoEnd text.now from (length text.now) }
     ensures { Back text.now to result }
 {
-    let mut r = from;
-    while to < r {
-        if text[r - 1] == 10 {
-            return r;
-        }
-        r -= 1;
+    match text[to..from].iter().rposition(|b| *b == b'\n') {
+        Some(i) => to + i + 1,
+        None => to,
     }
-    r
 }
 
 // How many bytes the whole lines of a text are. The first 16 are looked at by themselves: where they lie in the program's buffer is known, and so where all blocks lie.
 pub fn whole(text: &[u8]) -> usize
     ensures { Whole text.now result }
 {
-    let many = text.len() / 512;
-    let edge = 512 * many;
-    let near = blocks::pass_back(text, text.len(), edge, 16);
+    let edge = text.len() / 512 * 512;
+    let near = blocks::pass_back(text, text.len(), edge, 16, |i| blocks::ends(text, i, 16));
     let last = back(text, near, edge);
     if edge < last {
         return last;
     }
-    let high = 512 * blocks::pass_back_high(text, many);
-    let far = blocks::pass_back(text, high, 0, 256);
+    let high = blocks::pass_back(text, edge, 0, 512, |i| blocks::has_low(text, i));
+    let far = blocks::pass_back(text, high, 0, 256, |i| blocks::ends(text, i, 256));
     if far < 16 {
         return back(text, far, 0);
     }
-    let front = blocks::pass_back(text, far, 16, 16);
-    if front == 16 {
-        if !blocks::ends(text, 0, 16) {
-            return 0;
-        }
+    let front = blocks::pass_back(text, far, 16, 16, |i| blocks::ends(text, i, 16));
+    if front == 16 && !blocks::ends(text, 0, 16) {
+        return 0;
     }
     back(text, front, 0)
 }
 
 // Answers the lines from a place on of a text whose last byte is 10, while out has room for the longest line.
-pub fn feed(
-    text: &[u8],
-    start: usize,
-    n: usize,
-    states: &mut [u8],
-    links: &mut [u16],
-    leaders: &mut [u16],
-    holds: &mut [u16],
-    counts: &mut [u32],
-    register: &mut [u16],
-    into: &mut [u16],
-    list: &mut [u16],
-    work: &mut [u32],
-    mut from: usize,
-    out: &mut [u8],
-) -> Fed
-    requires { Stands n (store_of n states.old links.old leaders.old holds.old counts.old register.old into.old) list.old work.old from
-        × Closed text.now × (start ≤ length text.now) × (longest ≤ length out.old) }
-    ensures { Feeding n (store_of n states.old links.old leaders.old holds.old counts.old register.old into.old)
-        text.now start
-        (store_of n states.new links.new leaders.new holds.new counts.new register.new into.new)
-        list.new work.new out.new result.taken result.written result.from
-        × Stopped text.now out.new result.taken result.written }
+pub fn feed(text: &[u8], start: usize, areas: &mut Areas, out: &mut [u8]) -> Fed
+    requires { Closed text.now × (start ≤ length text.now) × (longest ≤ length out.old) }
+    ensures { Feeding areas.old.store.tables.base.n areas.old.store text.now start areas.new.store areas.new.list areas.new.work out.new result.taken result.written areas.new.from
+        × Stopped text.now out.new result.taken result.written × (areas.new.store.tables.base.n ≡ areas.old.store.tables.base.n) }
 {
     let most = out.len() - answers::LONGEST;
     let mut at = start;
     let mut written = 0;
-    while at < text.len() {
-        if most < written {
-            return Fed {
-                taken: at,
-                written: written,
-                from: from,
-            };
-        }
+    areas.stands();
+    while at < text.len() && written <= most {
         match lines::read(text, at) {
-            Found::Right(command, next) => {
-                let step = act(
-                    command, n, states, links, leaders, holds, counts, register, into, list, work,
-                    from, out, written,
-                );
+            Some((command, next)) => {
+                written = act(command, areas, out, written);
                 at = next;
-                written = step.at;
-                from = step.from;
             }
-            Found::Other => {
+            None => {
                 at = line_end(text, at) + 1;
                 written = answers::put_bad(out, written);
             }
         }
     }
-    Fed {
-        taken: at,
-        written: written,
-        from: from,
-    }
+    Fed { taken: at, written }
 }
 
 // How many drafts, frozen pieces and groups there are.
-#[derive(Drop)]
+#[derive(Clone, Copy)]
 pub struct Totals {
     pub drafts: u32,
     pub frozen: u32,
@@ -238,45 +155,33 @@ pub struct Totals {
 fn is_state(state: u8, k: u8) -> u32
     ensures { (result ≡ only_if (eqb state k) 1) × (result ≤ 1) }
 {
-    if state == k {
-        return 1;
-    }
-    0
+    u32::from(state == k)
 }
 
 // 1 where a piece of this state and leader leads a group, else 0.
 fn leads_one(state: u8, leader: u16, p: usize) -> u32
     ensures { (result ≡ only_if (eqb state 2 & eqb leader p) 1) × (result ≤ 1) }
 {
-    if state != Store::FROZEN {
-        return 0;
-    }
-    let l = leader as usize;
-    if l == p {
-        return 1;
-    }
-    0
+    u32::from(state == Store::FROZEN && usize::from(leader) == p)
 }
 
 // Counts drafts, frozen pieces and groups.
-fn total(n: usize, states: &[u8], leaders: &[u16]) -> Totals
-    requires { (n ≤ most) × (length states.now ≡ n) × (length leaders.now ≡ n) }
-    ensures { Totalled states.now leaders.now n result.drafts result.frozen result.groups }
+fn total(states: &[u8], leaders: &[u16]) -> Totals
+    requires { (length states.now ≤ most) × (length leaders.now ≡ length states.now) }
+    ensures { Totalled states.now leaders.now (length states.now) result.drafts result.frozen result.groups }
 {
-    let mut drafts: u32 = 0;
-    let mut frozen: u32 = 0;
-    let mut groups: u32 = 0;
-    let mut p = 0;
-    while p < n {
-        drafts += is_state(states[p], 1);
-        frozen += is_state(states[p], 2);
-        groups += leads_one(states[p], leaders[p], p);
-        p += 1;
+    let mut drafts = 0;
+    let mut frozen = 0;
+    let mut groups = 0;
+    for (p, state) in states.iter().enumerate() {
+        drafts += is_state(*state, Store::DRAFT);
+        frozen += is_state(*state, Store::FROZEN);
+        groups += leads_one(*state, leaders[p], p);
     }
     Totals {
-        drafts: drafts,
-        frozen: frozen,
-        groups: groups,
+        drafts,
+        frozen,
+        groups,
     }
 }
 
@@ -285,6 +190,6 @@ pub fn close(n: usize, states: &[u8], leaders: &[u16], out: &mut [u8], at: usize
     requires { (n ≤ most) × (length states.now ≡ n) × (length leaders.now ≡ n) × (at + 64 ≤ length out.old) }
     ensures { LastLine n states.now leaders.now out.old at out.new result }
 {
-    let all = total(n, states, leaders);
+    let all = total(states, leaders);
     answers::put_end(out, at, all.drafts, all.frozen, all.groups)
 }

@@ -3,6 +3,5 @@ pub mod Standing
 pub mod Taken
 pub mod Summing
 pub mod Inner
-pub mod Apart
 pub mod Within
 pub mod Turning

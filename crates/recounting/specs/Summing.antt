@@ -31,37 +31,25 @@ held_out n into labels q L h l =
     )
 
 -- the pass may begin, whatever the states and links are
-pub record Handing (n : ℕ) (leaders counts into work : List ℕ) (size : ℕ) : Type 0 where
+pub record Handing (n : ℕ) (leaders counts into found queue : List ℕ) : Type 0 where
   pub states : List ℕ
   pub links : List ℕ
-  pub taking : Taking n states links leaders counts into work size
+  pub taking : Taking n states links leaders counts into found queue
 
 -- the first j pieces of the queue are passed
-pub record Summed (n : ℕ) (leaders counts into work : List ℕ) (size j : ℕ) (leaders' counts' into' : List ℕ) : Type 0 where
+pub record Summed (n : ℕ) (leaders counts into found queue : List ℕ) (j : ℕ) (leaders' counts' into' : List ℕ) : Type 0 where
   pub leaders_n : length leaders' ≡ length leaders
   pub counts_n : length counts' ≡ length counts
   pub into_n : length into' ≡ length into
-  pub led : (i : ℕ) → i < j → leaders' ! (work ! (6 * n + i)) ≡ work ! (2 * n + work ! (6 * n + i))
-  pub left : (q : ℕ) → (Standing n work size q → ⊥) → leaders' ! q ≡ leaders ! q
-  pub emptied : (i : ℕ) → i < j → into' ! (work ! (6 * n + i)) ≡ 0
-  pub kept : (q : ℕ) → (Standing n work size q → ⊥) → into' ! q ≡ into ! q
-  pub whole : (L : ℕ) → L < n → counts' ! L + sum (held into' (fresh_leaders n work size) L) n ≡ counts ! L + sum (held into (fresh_leaders n work size) L) n
+  pub led : (i : ℕ) → i < j → leaders' ! (queue ! i) ≡ found ! (queue ! i)
+  pub left : (q : ℕ) → (Standing queue q → ⊥) → leaders' ! q ≡ leaders ! q
+  pub emptied : (i : ℕ) → i < j → into' ! (queue ! i) ≡ 0
+  pub kept : (q : ℕ) → (Standing queue q → ⊥) → into' ! q ≡ into ! q
+  pub whole : (L : ℕ) → L < n → counts' ! L + sum (held into' (fresh_leaders n found queue) L) n ≡ counts ! L + sum (held into (fresh_leaders n found queue) L) n
 
-pub summed_none : {n : ℕ} {leaders counts into work : List ℕ} {size : ℕ} → Summed n leaders counts into work size 0 leaders counts into
-summed_none = record {
-  leaders_n = refl;
-  counts_n = refl;
-  into_n = refl;
-  led = λ i h. absurd (omega arith);
-  left = λ q f. refl;
-  emptied = λ i h. absurd (omega arith);
-  kept = λ q f. refl;
-  whole = λ L h. refl;
-}
-
-module _ {n : ℕ} {states links leaders counts into work : List ℕ} {size : ℕ} (t : Taking n states links leaders counts into work size) where
+module _ {n : ℕ} {states links leaders counts into found queue : List ℕ} (t : Taking n states links leaders counts into found queue) where
   abbrev fresh : List ℕ
-  fresh = fresh_leaders n work size
+  fresh = fresh_leaders n found queue
 
   -- a whole group's entries, added up, have room
   most_summed : (L : ℕ) → L < n → counts ! L + sum (held into fresh L) n ≤ 71302144
@@ -75,27 +63,27 @@ module _ {n : ℕ} {states links leaders counts into work : List ℕ} {size : �
             (λ m l. only_if-most (eqb (label fresh m) L) (into ! m) 4096 (omega (arith, into_most t.named m l, t.small))),
       )
 
-  module _ {j : ℕ} {leaders₁ counts₁ into₁ : List ℕ} (a : Summed n leaders counts into work size j leaders₁ counts₁ into₁) where
-    module _ (more : j < size) where
+  module _ {j : ℕ} {leaders₁ counts₁ into₁ : List ℕ} (a : Summed n leaders counts into found queue j leaders₁ counts₁ into₁) where
+    module _ (more : j < length queue) where
       abbrev q : ℕ
-      q = work ! (6 * n + j)
+      q = queue ! j
 
       abbrev l : ℕ
-      l = work ! (2 * n + q)
+      l = found ! q
 
-      pub summing_below : work ! (6 * n + j) < n
+      pub summing_below : queue ! j < n
       summing_below = t.queued.each j more
 
-      standing : Standing n work size (work ! (6 * n + j))
+      standing : Standing queue (queue ! j)
       standing = record { at = j; below = more; is = refl }
 
-      pub summing_leader : work ! (2 * n + work ! (6 * n + j)) < n
+      pub summing_leader : found ! (queue ! j) < n
       summing_leader = t.fit q summing_below standing
 
       label_q : label fresh q ≡ l
-      label_q = fresh_on n work size q summing_below standing
+      label_q = fresh_on n found queue q summing_below standing
 
-      pub summing_room : counts₁ ! (work ! (2 * n + work ! (6 * n + j))) + into₁ ! (work ! (6 * n + j)) ≤ 71302144
+      pub summing_room : counts₁ ! (found ! (queue ! j)) + into₁ ! (queue ! j) ≤ 71302144
       unfolding held
       summing_room =
           omega (
@@ -106,22 +94,22 @@ module _ {n : ℕ} {states links leaders counts into work : List ℕ} {size : �
             only_if-true _ (into₁ ! q) (eq-eqb (label fresh q) l label_q),
           )
 
-      pub summed_more : {leaders₂ counts₂ into₂ : List ℕ} → leaders₂ ≡ set leaders₁ (work ! (6 * n + j)) (work ! (2 * n + work ! (6 * n + j)))
-          → counts₂ ≡ set counts₁ (work ! (2 * n + work ! (6 * n + j))) (counts₁ ! (work ! (2 * n + work ! (6 * n + j))) + into₁ ! (work ! (6 * n + j)))
-          → into₂ ≡ set into₁ (work ! (6 * n + j)) 0
-          → Summed n leaders counts into work size (j + 1) leaders₂ counts₂ into₂
+      pub summed_more : {leaders₂ counts₂ into₂ : List ℕ} → leaders₂ ≡ set leaders₁ (queue ! j) (found ! (queue ! j))
+          → counts₂ ≡ set counts₁ (found ! (queue ! j)) (counts₁ ! (found ! (queue ! j)) + into₁ ! (queue ! j))
+          → into₂ ≡ set into₁ (queue ! j) 0
+          → Summed n leaders counts into found queue (j + 1) leaders₂ counts₂ into₂
       summed_more {leaders₂} {counts₂} {into₂} el ec ei = record {
         leaders_n = ap length el ∙ length-set leaders₁ q l ∙ a.leaders_n;
         counts_n = ap length ec ∙ length-set counts₁ l (counts₁ ! l + into₁ ! q) ∙ a.counts_n;
         into_n = ap length ei ∙ length-set into₁ q 0 ∙ a.into_n;
         led = λ i h.
             ⊎_elim
-            (λ w. w.1 ∙ ap (λ (x : ℕ). work ! (2 * n + x)) (sym w.0))
+            (λ w. w.1 ∙ ap (λ (x : ℕ). found ! x) (sym w.0))
             (λ w. w.1 ∙ a.led i (last i h w.0))
-            (leaders_at (work ! (6 * n + i)));
-        left = λ r f. ⊎_elim (λ w. absurd (f (subst (Standing n work size) (sym w.0) standing))) (λ w. w.1 ∙ a.left r f) (leaders_at r);
-        emptied = λ i h. ⊎_elim (λ w. w.1) (λ w. w.1 ∙ a.emptied i (last i h w.0)) (into_at (work ! (6 * n + i)));
-        kept = λ r f. ⊎_elim (λ w. absurd (f (subst (Standing n work size) (sym w.0) standing))) (λ w. w.1 ∙ a.kept r f) (into_at r);
+            (leaders_at (queue ! i));
+        left = λ r f. ⊎_elim (λ w. absurd (f (subst (Standing queue) (sym w.0) standing))) (λ w. w.1 ∙ a.left r f) (leaders_at r);
+        emptied = λ i h. ⊎_elim (λ w. w.1) (λ w. w.1 ∙ a.emptied i (last i h w.0)) (into_at (queue ! i));
+        kept = λ r f. ⊎_elim (λ w. absurd (f (subst (Standing queue) (sym w.0) standing))) (λ w. w.1 ∙ a.kept r f) (into_at r);
         whole = λ L h. whole L h;
       }
         where
@@ -135,8 +123,8 @@ module _ {n : ℕ} {states links leaders counts into work : List ℕ} {size : �
               subst (λ (x : List ℕ). ((r ≡ q) × (x ! r ≡ 0)) ⊎ ((r ≡ q → ⊥) × (x ! r ≡ into₁ ! r))) (sym ei)
               (set_cases into₁ q 0 r 0 (omega (arith, summing_below, a.into_n, t.named.size)))
 
-          last : (i : ℕ) → i < j + 1 → (work ! (6 * n + i) ≡ q → ⊥) → i < j
-          last i h d = ⊎_elim (λ e. absurd (d (ap (λ (x : ℕ). work ! (6 * n + x)) e))) (λ e. omega arith) (eq_or i j)
+          last : (i : ℕ) → i < j + 1 → (queue ! i ≡ q → ⊥) → i < j
+          last i h d = ⊎_elim (λ e. absurd (d (ap (λ (x : ℕ). queue ! x) e))) (λ e. omega arith) (eq_or i j)
 
           whole : (L : ℕ) → L < n → counts₂ ! L + sum (held into₂ fresh L) n ≡ counts ! L + sum (held into fresh L) n
           whole L h =
@@ -150,20 +138,20 @@ module _ {n : ℕ} {states links leaders counts into work : List ℕ} {size : �
               (set_cases counts₁ l (counts₁ ! l + into₁ ! q) L 0 (omega (arith, summing_leader, a.counts_n, t.counts_n)))
 
     -- all are passed
-    module _ (end : size ≤ j) where
-      pub summed_leaders : (r : ℕ) → r < n → Standing n work size r → leaders₁ ! r ≡ work ! (2 * n + r)
+    module _ (end : length queue ≤ j) where
+      pub summed_leaders : (r : ℕ) → r < n → Standing queue r → leaders₁ ! r ≡ found ! r
       summed_leaders r h e =
           let x = a.led e.at (let y = e.below in omega arith) in
-          subst (λ (y : ℕ). leaders₁ ! y ≡ work ! (2 * n + y)) e.is x
+          subst (λ (y : ℕ). leaders₁ ! y ≡ found ! y) e.is x
 
-      pub summed_empty : (r : ℕ) → r < n → Standing n work size r → into₁ ! r ≡ 0
+      pub summed_empty : (r : ℕ) → r < n → Standing queue r → into₁ ! r ≡ 0
       summed_empty r h e = subst (λ (y : ℕ). into₁ ! y ≡ 0) e.is (a.emptied e.at (let y = e.below in omega arith))
 
-      draft_of : (m : ℕ) → m < n → {L : ℕ} → L < n → label fresh m ≡ L → Standing n work size m
-      draft_of m h {L} k e = ⊎_elim (λ x. x) (λ f. absurd (omega (arith, fresh_off n work size m h f, t.small))) (standing_or n work size m)
+      draft_of : (m : ℕ) → m < n → {L : ℕ} → L < n → label fresh m ≡ L → Standing queue m
+      draft_of m h {L} k e = ⊎_elim (λ x. x) (λ f. absurd (omega (arith, fresh_off n found queue m h f, t.small))) (standing_or queue m)
 
       pub summed_counts : (L : ℕ) → L < n
-          → counts₁ ! L ≡ counts ! L + sum (placed links (fresh_leaders n work size) L) (4 * n) + sum (within links (fresh_leaders n work size) L) (4 * n)
+          → counts₁ ! L ≡ counts ! L + sum (placed links (fresh_leaders n found queue) L) (4 * n) + sum (within links (fresh_leaders n found queue) L) (4 * n)
       unfolding held
       summed_counts L h =
           omega (
@@ -173,29 +161,23 @@ module _ {n : ℕ} {states links leaders counts into work : List ℕ} {size : �
                 (λ e. ap (only_if (eqb (label fresh m) L)) (summed_empty m k (draft_of m k h e)) ∙ only_if-true _ 0 (eq-eqb (label fresh m) L e))
                 (λ f. only_if-false _ (into₁ ! m) (ne_eqb (label fresh m) L f))
                 (eq_or (label fresh m) L)),
-            merged n links fresh (fresh-n n work size) t.small L h t.named (λ m k e. t.draft m k (draft_of m k h e)),
+            merged n links fresh (fresh-n n found queue) t.small L h t.named (λ m k e. t.draft m k (draft_of m k h e)),
           )
-
--- the pass has come to its end
-pub summed_to : {n : ℕ} {leaders counts into work : List ℕ} {size j : ℕ} {leaders' counts' into' : List ℕ} → Summed n leaders counts into work size j leaders' counts' into'
-    → j ≤ size → size ≤ j → Summed n leaders counts into work size size leaders' counts' into'
-summed_to {n} {leaders} {counts} {into} {work} {size} {leaders' = leaders'} {counts'} {into'} a h k =
-    subst (λ (i : ℕ). Summed n leaders counts into work size i leaders' counts' into') (omega arith) a
 
 -- ---- what the first pass leaves
 
-pub record Handed (n : ℕ) (links leaders counts into work : List ℕ) (size : ℕ) (leaders' counts' into' : List ℕ) : Type 0 where
+pub record Handed (n : ℕ) (links leaders counts into found queue : List ℕ) (leaders' counts' into' : List ℕ) : Type 0 where
   pub leaders_n : length leaders' ≡ length leaders
   pub counts_n : length counts' ≡ length counts
   pub into_n : length into' ≡ length into
-  pub led : (q : ℕ) → q < n → Standing n work size q → leaders' ! q ≡ work ! (2 * n + q)
-  pub left : (q : ℕ) → (Standing n work size q → ⊥) → leaders' ! q ≡ leaders ! q
-  pub emptied : (q : ℕ) → q < n → Standing n work size q → into' ! q ≡ 0
-  pub kept : (q : ℕ) → (Standing n work size q → ⊥) → into' ! q ≡ into ! q
-  pub counted : (L : ℕ) → L < n → counts' ! L ≡ counts ! L + sum (placed links (fresh_leaders n work size) L) (4 * n) + sum (within links (fresh_leaders n work size) L) (4 * n)
+  pub led : (q : ℕ) → q < n → Standing queue q → leaders' ! q ≡ found ! q
+  pub left : (q : ℕ) → (Standing queue q → ⊥) → leaders' ! q ≡ leaders ! q
+  pub emptied : (q : ℕ) → q < n → Standing queue q → into' ! q ≡ 0
+  pub kept : (q : ℕ) → (Standing queue q → ⊥) → into' ! q ≡ into ! q
+  pub counted : (L : ℕ) → L < n → counts' ! L ≡ counts ! L + sum (placed links (fresh_leaders n found queue) L) (4 * n) + sum (within links (fresh_leaders n found queue) L) (4 * n)
 
-pub summed_all : {n : ℕ} {states links leaders counts into work : List ℕ} {size j : ℕ} {leaders' counts' into' : List ℕ} → Taking n states links leaders counts into work size
-    → Summed n leaders counts into work size j leaders' counts' into' → size ≤ j → Handed n links leaders counts into work size leaders' counts' into'
+pub summed_all : {n : ℕ} {states links leaders counts into found queue : List ℕ} {j : ℕ} {leaders' counts' into' : List ℕ} → Taking n states links leaders counts into found queue
+    → Summed n leaders counts into found queue j leaders' counts' into' → length queue ≤ j → Handed n links leaders counts into found queue leaders' counts' into'
 summed_all t a end = record {
   leaders_n = a.leaders_n;
   counts_n = a.counts_n;

@@ -12,7 +12,7 @@ use Rattle.laws.specs.Tests.{or_left, or_right, or_cases, and_both, and_left, an
 use Rattle.laws.specs.Below.{every→, →every, pick_true, pick-false}
 use Rattle.laws.specs.Numbers.{eq_or, lt_or}
 
-eq→T : (a b : ℕ) → a ≡ b → T (eqb a b)
+pub eq→T : (a b : ℕ) → a ≡ b → T (eqb a b)
 eq→T a b e = subst (λ (x : ℕ). T (eqb a x)) e (eqb_refl a)
 
 ne→T : (a b : ℕ) → (a ≡ b → ⊥) → T (not (eqb a b))
@@ -56,7 +56,8 @@ module _ (n : ℕ) (l : List ℕ) (i : ℕ) where
   abbrev next : Bool
   next = eqb (number_at l (i + 1)) 0 or ltb (order_at l i) (order_at l (i + 1))
 
-  used→ : (number_at l i ≡ 0 → ⊥) → T (line_right n l i) → (seat_at l i < 32) × (piece_at l i < n) × (number_at l i ≤ 1000) × (0 < number_at l (i + 1) → order_at l i < order_at l (i + 1))
+  used→ : (number_at l i ≡ 0 → ⊥) → T (line_right n l i)
+      → (seat_at l i < 32) × (piece_at l i < n) × (number_at l i ≤ 1000) × (0 < number_at l (i + 1) → order_at l i < order_at l (i + 1))
   unfolding used_right
   used→ d t =
       let u = subst (λ (b : Bool). T b) (case_used d) t in
@@ -68,7 +69,8 @@ module _ (n : ℕ) (l : List ℕ) (i : ℕ) where
       let c = leb→le (number_at l i) 1000 (and_left (leb (number_at l i) 1000) next x) in
       (a, b, c, λ h. ⊎_elim (λ e. absurd (omega (arith, eqb→eq (number_at l (i + 1)) 0 e))) (λ e. ltb→lt (order_at l i) (order_at l (i + 1)) e) y)
 
-  →used : (number_at l i ≡ 0 → ⊥) → seat_at l i < 32 → piece_at l i < n → number_at l i ≤ 1000 → (0 < number_at l (i + 1) → order_at l i < order_at l (i + 1)) → T (line_right n l i)
+  →used : (number_at l i ≡ 0 → ⊥) → seat_at l i < 32 → piece_at l i < n → number_at l i ≤ 1000 → (0 < number_at l (i + 1) → order_at l i < order_at l (i + 1))
+      → T (line_right n l i)
   unfolding used_right
   →used d a b c f =
       subst (λ (x : Bool). T x) (sym (case_used d))

@@ -2,11 +2,10 @@
 use Rattle.register.specs.Sums.{sum-zero}
 use Rattle.register.specs.Adds.{adds_none}
 use Rattle.register.specs.Totals.{total-sum}
-use Rattle.std.specs.Prelude.{◌≡◌, Bool, List, [], ◌++◌, ℕ, ◌+◌, ◌*◌, length, get_or, drop, replicate}
-use Rattle.std.proofs.Common.{ap, ◌∙◌, subst, ⊎_elim, append-nil, arith}
+use Rattle.std.specs.Prelude.{◌≡◌, Bool, ℕ, ◌+◌, ◌*◌, get_or, replicate}
+use Rattle.std.proofs.Common.{◌∙◌, ⊎_elim, arith}
 use Rattle.std.proofs.lemmas.List.{length-replicate, get_or-replicate}
 use Rattle.std.proofs.Math.ListN.{get_or-eq_default}
-use Rattle.std.proofs.Math.Seq.{drop-length}
 use Rattle.rules.specs.Limits.{lines, entries}
 use Rattle.rules.specs.Register.{seat_at, piece_at, number_at, Right, adds, total}
 use Rattle.laws.specs.Numbers.{lt_or}
@@ -17,11 +16,6 @@ empty_entry j = go entries j
   where
     go : (k i : ℕ) → ◌≡◌ {A = ℕ} (get_or {A = ℕ} (replicate k 0) i 0) 0
     go k i = ⊎_elim (λ h. get_or-replicate {A = ℕ} k i 0 0 h) (λ h. get_or-eq_default (replicate k 0) 0 (omega (arith, length-replicate {A = ℕ} k 0))) (lt_or i k)
-
--- filled with zeros
-pub filled-empty : (l : List ℕ) {m : List ℕ} → length l ≡ entries → m ≡ replicate entries 0 ++ drop entries l → m ≡ replicate entries 0
-filled-empty l {m} z e =
-    e ∙ ap (λ (t : List ℕ). replicate entries 0 ++ t) (subst (λ (k : ℕ). drop k l ≡ []) z (drop-length l)) ∙ append-nil (replicate entries 0)
 
 pub empty-number : (i : ℕ) → number_at (replicate entries 0) i ≡ 0
 unfolding number_at

@@ -1,52 +1,55 @@
 -- What the tests on one line say.
 use Rattle.register.specs.Order.{number_past}
-use Rattle.register.specs.Adds.{and_off, and_parts}
-use Rattle.register.specs.Has.{has_off}
-use Rattle.std.specs.Prelude.{◌≡◌, Bool, true, false, List, ℕ, ◌+◌, ◌*◌, ◌≤◌, ◌<◌, length, get_or}
-use Rattle.std.proofs.Math.Path.{sym, ap}
-use Rattle.std.proofs.Common.{◌∙◌, arith}
-use borrow.Author.Tests.{lt-ltb, le-ltb, eq-eqb, ltb-true, ltb-false}
-use Rattle.std.proofs.Math.Dec.{eqb, ltb}
-use Rattle.rules.specs.Tests.{◌&◌}
+use Rattle.register.specs.Adds.{and_parts}
+use Rattle.register.specs.Has.{has_on, has_off}
+use Rattle.laws.specs.Numbers.{lt_or}
+use Rattle.register.specs.Lines.{line_at}
+use Rattle.std.specs.Prelude.{◌≡◌, Bool, true, false, List, ℕ, ◌≤◌, ◌<◌, length, get_or}
+use Rattle.std.proofs.Math.Path.{refl, sym, ap}
+use Rattle.std.proofs.Common.{◌∙◌, ⊎_elim, arith}
+use borrow.Author.Tests.{ltb-true}
+use Rattle.std.proofs.Math.Dec.{ltb}
+use Rattle.rules.specs.Tests.{only_if}
 use Rattle.rules.specs.Limits.{lines, entries}
-use Rattle.rules.specs.Register.{seat_at, piece_at, number_at, order, order_at, is_before, has_line}
+use Rattle.rules.specs.Register.{number_at, order_at, is_before, has_line}
 
-and_first : {a : Bool} (b : Bool) → a ≡ true → b ≡ (a & b)
-and_first b e = sym (ap (λ (x : Bool). x & b) e)
+abbrev first : List ℕ → ℕ
+first x = get_or x 0 0
+
+abbrev second : List ℕ → ℕ
+second x = get_or x 1 0
+
+abbrev third : List ℕ → ℕ
+third x = get_or x 2 0
+
+none : (b : Bool) {k : ℕ} → k ≡ 0 → only_if b k ≡ 0
+none true e = e
+none false e = refl
 
 module _ (l : List ℕ) (i : ℕ) where
   -- ---- before a pair
-
-  pub before_unused : (k : ℕ) → get_or l (3 * i + 2) 0 ≡ 0 → false ≡ is_before l k i
-  unfolding is_before number_at
-  before_unused k e = sym (and_off (ltb (order_at l i) k) (le-ltb 0 (number_at l i) (omega arith)))
-
-  pub before_ends : (k r : ℕ) → (get_or l (3 * i + 2) 0 ≡ 0 → ⊥) → r ≡ order (get_or l (3 * i) 0) (get_or l (3 * i + 1) 0) → ltb r k ≡ is_before l k i
-  unfolding is_before seat_at piece_at number_at
-  before_ends k r d e = ap (λ (x : ℕ). ltb x k) e ∙ and_first (ltb (order_at l i) k) (lt-ltb 0 (number_at l i) (omega (arith, d)))
 
   pub before_true : (k : ℕ) → is_before l k i ≡ true → (0 < number_at l i) × (order_at l i < k)
   unfolding is_before
   before_true k e = let w = and_parts (ltb 0 (number_at l i)) (ltb (order_at l i) k) e in (ltb-true 0 (number_at l i) w.0, ltb-true (order_at l i) k w.1)
 
-  pub before_false : (k : ℕ) → is_before l k i ≡ false → 0 < number_at l i → k ≤ order_at l i
-  unfolding is_before
-  before_false k e u = ltb-false (order_at l i) k (and_first (ltb (order_at l i) k) (lt-ltb 0 (number_at l i) u) ∙ e)
-
-  -- ---- the line of a pair
+  -- ---- the number of a pair's line
 
   module _ (s p : ℕ) where
-    pub has_past : length l ≡ entries → lines ≤ i → false ≡ has_line l i s p
-    has_past z h = sym (has_off l i s p (λ u a b. omega (arith, number_past l z i h)))
+    pub number_none : length l ≡ entries → lines ≤ i → 0 ≡ only_if (has_line l i s p) (number_at l i)
+    number_none z h = sym (none (has_line l i s p) (number_past l z i h))
 
-    pub has_unused : get_or l (3 * i + 2) 0 ≡ 0 → false ≡ has_line l i s p
-    unfolding number_at
-    has_unused e = sym (has_off l i s p (λ u a b. omega arith))
+    module _ {x : List ℕ} (e : x ≡ line_at l i) where
+      pub number_same : get_or x 0 0 ≡ s → get_or x 1 0 ≡ p → get_or x 2 0 ≡ only_if (has_line l i s p) (number_at l i)
+      number_same a b = ⊎_elim
+          (λ u. ap third e ∙ sym (ap (λ (b : Bool). only_if b (number_at l i)) (has_on l i s p u (sym (ap first e) ∙ a) (sym (ap second e) ∙ b))))
+          (λ u. let v : number_at l i ≡ 0 = omega arith in ap third e ∙ v ∙ sym (none (has_line l i s p) v))
+          (lt_or 0 (number_at l i))
 
-    pub has_apart : (get_or l (3 * i) 0 ≡ s → ⊥) → false ≡ has_line l i s p
-    unfolding seat_at
-    has_apart d = sym (has_off l i s p (λ u a b. d a))
+      pub other_seat : (get_or x 0 0 ≡ s → ⊥) → 0 ≡ only_if (has_line l i s p) (number_at l i)
+      other_seat f = ap (λ (b : Bool). only_if b (number_at l i)) (sym (has_off l i s p (λ u a b. f (ap first e ∙ a))))
 
-    pub has_ends : (get_or l (3 * i + 2) 0 ≡ 0 → ⊥) → get_or l (3 * i) 0 ≡ s → eqb (get_or l (3 * i + 1) 0) p ≡ has_line l i s p
-    unfolding has_line seat_at piece_at number_at
-    has_ends d e = and_first (eqb (piece_at l i) p) (eq-eqb (seat_at l i) s e) ∙ and_first (eqb (seat_at l i) s & eqb (piece_at l i) p) (lt-ltb 0 (number_at l i) (omega (arith, d)))
+      pub other_piece : (get_or x 1 0 ≡ p → ⊥) → 0 ≡ only_if (has_line l i s p) (number_at l i)
+      other_piece f = ap (λ (b : Bool). only_if b (number_at l i)) (sym (has_off l i s p (λ u a b. f (ap second e ∙ b))))
+
+pub ruleset number_laws = (number_none, number_same, other_seat, other_piece)

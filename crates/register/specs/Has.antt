@@ -3,9 +3,9 @@ use Rattle.register.specs.Order.{line_is}
 use Rattle.register.specs.Adds.{and_on, and_parts}
 use Rattle.register.specs.Pairs.{held_by_some, held_by_line}
 use Rattle.register.specs.Found.{Found, found_is}
-use Rattle.std.specs.Prelude.{◌≡◌, refl, Bool, true, false, List, ℕ, ◌<◌, eqb, ltb}
-use Rattle.std.proofs.Common.{sym, subst, ⊎_elim, arith, lt-ltb, eq-eqb, eqb-true, ltb-true}
-use Rattle.rules.specs.Tests.{◌&◌}
+use Rattle.std.specs.Prelude.{◌≡◌, refl, Bool, true, false, not, List, ℕ, ◌<◌, eqb, ltb}
+use Rattle.std.proofs.Common.{sym, ap, ◌∙◌, subst, ⊎_elim, arith, lt-ltb, eq-eqb, ne_eqb, eqb-true, ltb-true}
+use Rattle.rules.specs.Tests.{◌&◌, only_if}
 use Rattle.rules.specs.Register.{seat_at, piece_at, number_at, order, order_at, Ordered, held_by, has_line}
 use Rattle.laws.specs.Numbers.{eq_or, lt_or}
 
@@ -48,3 +48,23 @@ module _ (l : List ℕ) (o : Ordered l) (s p r : ℕ) (f : Found l s p r) where
       (λ x. let w = line_is l o r s p k (sym x) in let t = has_on l r s p u w.0 w.1 in let z : ◌≡◌ {A = ℕ} 0 1 = cc in absurd (omega arith))
       (λ d. omega (arith, d, f.here u))
       (eq_or (order s p) (order_at l r))
+
+-- ---- the number of a line, 0 where it is not the pair's
+
+module _ (l : List ℕ) (i s p : ℕ) {k : ℕ} (e : k ≡ only_if (has_line l i s p) (number_at l i)) where
+  by_test : (b : Bool) → has_line l i s p ≡ b → k ≡ only_if b (number_at l i)
+  by_test b t = e ∙ ap (λ (x : Bool). only_if x (number_at l i)) t
+
+  pub number_has : not (eqb k 0) ≡ has_line l i s p
+  number_has = go (has_line l i s p) refl
+    where
+      go : (b : Bool) → has_line l i s p ≡ b → not (eqb k 0) ≡ has_line l i s p
+      go true t = let u = (has_told l i s p t).0 in ap not (ne_eqb k 0 (λ z. omega (arith, by_test true t))) ∙ sym t
+      go false t = ap not (eq-eqb k 0 (by_test false t)) ∙ sym t
+
+  pub number_held : Ordered l → Found l s p i → k ≡ held_by l s p
+  number_held o f = go (has_line l i s p) refl
+    where
+      go : (b : Bool) → has_line l i s p ≡ b → k ≡ held_by l s p
+      go true t = by_test true t ∙ sym (has_held l o s p i f t)
+      go false t = by_test false t ∙ sym (has_none l o s p i f t)

@@ -5,9 +5,11 @@ use Rattle.register.specs.Totals.{total-sum}
 use Rattle.register.specs.Written.{rest-zero}
 use Rattle.register.specs.Decided.{right-told}
 use Rattle.register.specs.Zeros.{ZeroFrom, ZeroSaid}
+use Rattle.register.specs.Folds.{all_zeros, zeros_said}
+use Rattle.register.specs.Lines.{line_at}
 use Rattle.register.specs.Checked.{held_below, Checked, checked_more}
 use Rattle.std.specs.Prelude.{◌≡◌, refl, Bool, List, ℕ, zero, suc, ◌+◌, ◌*◌, ◌≤◌, ◌<◌, length, set, drop}
-use Rattle.std.proofs.Common.{sym, ap, ⊎_elim}
+use Rattle.std.proofs.Common.{sym, ap, ap₂, ◌∙◌, ⊎_elim}
 use Rattle.std.proofs.Math.Path.{subst}
 use Rattle.std.proofs.Math.Bool.{true, false}
 use native.Mathlib.Omega.{arith}
@@ -103,41 +105,50 @@ module _ {n : ℕ} {l sums₀ : List ℕ} {low i : ℕ} {sums : List ℕ} (v : C
     pub rest-wrong : number_at l i ≡ 0 → (ZeroFrom l (3 * i) entries → ⊥) → Right n l → ⊥
     rest-wrong e f r = f (λ k h g. rest-zero l r.ordered i e k h)
 
-    pub rest_said : (r : Bool) → get_or l (3 * i + 2) 0 ≡ 0 → ZeroSaid l (3 * i) r → RightSaid n l sums₀ sums r
-    unfolding number_at
+    rest_said : (r : Bool) → number_at l i ≡ 0 → ZeroSaid l (3 * i) r → RightSaid n l sums₀ sums r
     rest_said true e q = all_right (q.yes refl)
     rest_said false e q = line-wrong (rest-wrong e (q.no refl))
 
     pub full_right : lines ≤ i → RightSaid n l sums₀ sums true
     full_right h = all_right (λ k g u. absurd (omega arith))
 
--- ---- the same, of the entries that the code reads
+-- ---- the same, of the line that the code reads
 
-module _ {n : ℕ} {l sums₀ : List ℕ} {low i : ℕ} {sums : List ℕ} (v : Checked n l sums₀ low i sums) (u : get_or l (3 * i + 2) 0 ≡ 0 → ⊥) where
-  line_used : 0 < number_at l i
-  unfolding number_at
-  line_used = omega (arith, u)
+module _ {n : ℕ} {l sums₀ : List ℕ} {low i : ℕ} {sums : List ℕ} (v : Checked n l sums₀ low i sums) {x : List ℕ} (e : x ≡ line_at l i) where
+  seat : get_or x 0 0 ≡ seat_at l i
+  seat = ap (λ (y : List ℕ). get_or y 0 0) e
 
-  pub wrong_seat : 31 < get_or l (3 * i) 0 → RightSaid n l sums₀ sums false
-  unfolding seat_at
-  wrong_seat h = line-wrong v (λ r. omega (arith, r.seats i line_used))
+  piece : get_or x 1 0 ≡ piece_at l i
+  piece = ap (λ (y : List ℕ). get_or y 1 0) e
 
-  pub wrong_piece : n ≤ get_or l (3 * i + 1) 0 → RightSaid n l sums₀ sums false
-  unfolding piece_at
-  wrong_piece h = line-wrong v (λ r. omega (arith, r.pieces i line_used))
+  number : get_or x 2 0 ≡ number_at l i
+  number = ap (λ (y : List ℕ). get_or y 2 0) e
 
-  pub wrong-number : 1000 < get_or l (3 * i + 2) 0 → RightSaid n l sums₀ sums false
-  unfolding number_at
-  wrong-number h = line-wrong v (λ r. omega (arith, r.numbers i))
+  pub zeros_right : {r : Bool} → ((p : ℕ) → p < n → sums₀ ! p ≡ 0) → get_or x 2 0 ≡ 0 → r ≡ all_zeros (drop (3 * i) l) → RightSaid n l sums₀ sums r
+  zeros_right {r} b u q = rest_said v b r (sym number ∙ u) (zeros_said l v.size (3 * i) q)
 
-  module _ (k : ℕ) (e : k ≡ order (get_or l (3 * i) 0) (get_or l (3 * i + 1) 0)) where
-    pub wrong-order : k < low → RightSaid n l sums₀ sums false
-    unfolding seat_at piece_at
-    wrong-order h = line-wrong v (not_behind v line_used (omega arith))
+  module _ (u : get_or x 2 0 ≡ 0 → ⊥) where
+    used : 0 < number_at l i
+    used = omega (arith, number)
 
-    pub line_counted : i < lines → n ≤ length sums₀ → get_or l (3 * i) 0 ≤ 31 → get_or l (3 * i + 1) 0 < n → get_or l (3 * i + 2) 0 ≤ 1000 → low ≤ k
-        → Checked n l sums₀ (k + 1) (i + 1) (set sums (get_or l (3 * i + 1) 0) (sums ! get_or l (3 * i + 1) 0 + get_or l (3 * i + 2) 0))
-    unfolding seat_at piece_at number_at
-    line_counted h z a b c d =
-        subst (λ (x : ℕ). Checked n l sums₀ (x + 1) (i + 1) (set sums (get_or l (3 * i + 1) 0) (sums ! get_or l (3 * i + 1) 0 + get_or l (3 * i + 2) 0))) (sym e)
-        (checked_more v h z (record { used = line_used; seats = omega arith; pieces = b; numbers = c }) (omega arith))
+    pub wrong_seat : 32 ≤ get_or x 0 0 → RightSaid n l sums₀ sums false
+    wrong_seat h = line-wrong v (λ r. omega (arith, r.seats i used, seat))
+
+    pub wrong_piece : n ≤ get_or x 1 0 → RightSaid n l sums₀ sums false
+    wrong_piece h = line-wrong v (λ r. omega (arith, r.pieces i used, piece))
+
+    pub wrong-number : 1000 < get_or x 2 0 → RightSaid n l sums₀ sums false
+    wrong-number h = line-wrong v (λ r. omega (arith, r.numbers i, number))
+
+    module _ {k : ℕ} (q : k ≡ order (get_or x 0 0) (get_or x 1 0)) where
+      key : k ≡ order_at l i
+      key = q ∙ ap₂ order seat piece
+
+      pub wrong-order : k < low → RightSaid n l sums₀ sums false
+      wrong-order h = line-wrong v (not_behind v used (omega (arith, key)))
+
+      pub line_counted : {d : ℕ} → i < lines → n ≤ length sums₀ → get_or x 0 0 < 32 → get_or x 1 0 < n → get_or x 2 0 ≤ 1000 → low ≤ k → d ≡ get_or x 2 0
+          → Checked n l sums₀ (k + 1) (i + 1) (set sums (get_or x 1 0) (sums ! get_or x 1 0 + d))
+      line_counted {d} h z a b c g t =
+          rw (key, piece, t ∙ number)
+          (checked_more v h z (record { used = used; seats = omega (arith, seat); pieces = omega (arith, piece); numbers = omega (arith, number) }) (omega (arith, key)))

@@ -1,5 +1,8 @@
 pub mod Sums
 pub mod Order
+pub mod Lines
+pub mod Points
+pub mod Halved
 pub mod Adds
 pub mod Totals
 pub mod Pairs
@@ -7,15 +10,12 @@ pub mod Seats
 pub mod Found
 pub mod Has
 pub mod Halves
-pub mod Windows
 pub mod Moves
 pub mod Ordering
 pub mod Entries
 pub mod Removed
 pub mod Written
-pub mod Moved
-pub mod Opened
-pub mod Closed
+pub mod Shifted
 pub mod Same
 pub mod Room
 pub mod Steps
@@ -25,6 +25,7 @@ pub mod Empty
 pub mod Holds
 pub mod Decided
 pub mod Zeros
+pub mod Folds
 pub mod Checked
 pub mod Judged
 pub mod Agreed

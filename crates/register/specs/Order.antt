@@ -54,7 +54,9 @@ module _ (l : List ℕ) (o : Ordered l) where
 
   -- and stand before it
   pub order_up : (i j : ℕ) → i < j → 0 < number_at l j → order_at l i < order_at l j
-  order_up i j h u = let x : j ≡ i + (j - i - 1) + 1 = omega arith in subst (λ (a : ℕ). order_at l i < order_at l a) (sym x) (order_back (j - i - 1) i (subst (λ (a : ℕ). 0 < number_at l a) x u))
+  order_up i j h u =
+      let x : j ≡ i + (j - i - 1) + 1 = omega arith in
+      subst (λ (a : ℕ). order_at l i < order_at l a) (sym x) (order_back (j - i - 1) i (subst (λ (a : ℕ). 0 < number_at l a) x u))
 
   pub order_on : (i j : ℕ) → i ≤ j → 0 < number_at l j → order_at l i ≤ order_at l j
   order_on i j h u = ⊎_elim (λ e. omega (arith, ap (order_at l) e)) (λ d. omega (arith, order_up i j (omega (arith, d)) u)) (eq_or i j)

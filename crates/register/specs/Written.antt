@@ -39,7 +39,9 @@ module _ (m : List ℕ) (a x y z : ℕ) where
 
   module _ (h : a + 2 < length m) where
     pub line_first : get_or line a 0 ≡ x
-    line_first = get_or-set_other (set (set m a x) (a + 1) y) (a + 2) a z 0 (λ e. omega arith) ∙ get_or-set_other (set m a x) (a + 1) a y 0 (λ e. omega arith) ∙ get_or-set_same m a x 0 (omega arith)
+    line_first =
+        get_or-set_other (set (set m a x) (a + 1) y) (a + 2) a z 0 (λ e. omega arith) ∙ get_or-set_other (set m a x) (a + 1) a y 0 (λ e. omega arith)
+        ∙ get_or-set_same m a x 0 (omega arith)
 
     pub line_second : get_or line (a + 1) 0 ≡ y
     line_second = get_or-set_other (set (set m a x) (a + 1) y) (a + 2) (a + 1) z 0 (λ e. omega arith) ∙ get_or-set_same (set m a x) (a + 1) y 0 (omega (arith, length-set m a x))

@@ -1,5 +1,5 @@
 -- The nine calls over the areas that they are lent, for all contents and all lengths.
-use Rattle.std.specs.Prelude.{◌≡◌, Bool, true, false, not, List, [], ◌∷◌, ◌++◌, ℕ, ◌*◌, ◌≤◌, eqb, leb, length, get_or, replicate, drop}
+use Rattle.std.specs.Prelude.{◌≡◌, Bool, true, false, not, List, [], ◌∷◌, ◌++◌, ℕ, ◌*◌, ◌≤◌, eqb, leb, length, get_or, replicate, drop, Ok, Err}
 use Rattle.rules.specs.Tests.{◌or◌, ◌&◌, pick}
 use Rattle.rules.specs.Limits.{most, none, entries}
 use Rattle.rules.specs.Tables.{Base, Tables, Store, state, holds_of, is_sound_store, empty}
@@ -8,12 +8,7 @@ use Rattle.rules.specs.Commands.{is_look, piece_of, Verdict, accepted, refused, 
 use Rattle.rules.specs.declared.Refusal.{Refusal}
 use Rattle.rules.specs.declared.Refusal.TheVariants.{Size, Unsound, Number, Free, State, Limit, NotHeld, Linked, Full, Long, Room, Seat, NotYours, Register, Place, Target, FreeTarget}
 use Rattle.rules.specs.declared.Command.{Command}
-use Rattle.rules.specs.declared.Answer.{Answer}
-use Rattle.rules.specs.declared.Answer.TheVariants.{Done, Refused}
-use Rattle.rules.specs.declared.Seen.{Seen}
-use Rattle.rules.specs.declared.Seen.TheVariants.{Piece, Unseen}
-use Rattle.rules.specs.declared.Checked.{Checked}
-use Rattle.rules.specs.declared.Checked.TheVariants.{Yes, No, Unchecked}
+use Rattle.rules.specs.Replies.{Answer, Checked, Seen, done, piece_seen}
 
 pub data Call : Type 0 where
   start : Call
@@ -57,8 +52,8 @@ pub record Values : Type 0 where
 
 -- An accepted call answers 0, its value and the number freed. A refused call returns its number, value none and 0 freed
 abbrev pub values_of : Answer → Values
-values_of (Done v f) = record { refusal = 0; value = v; freed = f }
-values_of (Refused r) = record { refusal = number_of r; value = none; freed = 0 }
+values_of (Ok d) = record { refusal = 0; value = d.value; freed = d.freed }
+values_of (Err r) = record { refusal = number_of r; value = none; freed = 0 }
 
 pub record SeenValues : Type 0 where
   pub refusal : ℕ
@@ -69,8 +64,8 @@ pub record SeenValues : Type 0 where
 
 -- look: state, leader, count of its group, holds of P; refused, it answers 0, none, 0, 0
 abbrev pub seen_values_of : Seen → SeenValues
-seen_values_of (Piece s l c h) = record { refusal = 0; state = s; leader = l; count = c; holds = h }
-seen_values_of (Unseen r) = record { refusal = number_of r; state = 0; leader = none; count = 0; holds = 0 }
+seen_values_of (Ok p) = record { refusal = 0; state = p.state; leader = p.leader; count = p.count; holds = p.holds }
+seen_values_of (Err r) = record { refusal = number_of r; state = 0; leader = none; count = 0; holds = 0 }
 
 pub record CheckedValues : Type 0 where
   pub refusal : ℕ
@@ -78,13 +73,13 @@ pub record CheckedValues : Type 0 where
 
 -- check: 1 for yes; refused, it answers no
 abbrev pub checked_values_of : Checked → CheckedValues
-checked_values_of Yes = record { refusal = 0; yes = 1 }
-checked_values_of No = record { refusal = 0; yes = 0 }
-checked_values_of (Unchecked r) = record { refusal = number_of r; yes = 0 }
+checked_values_of (Ok true) = record { refusal = 0; yes = 1 }
+checked_values_of (Ok false) = record { refusal = 0; yes = 0 }
+checked_values_of (Err r) = record { refusal = number_of r; yes = 0 }
 
 -- accepted, no value, nothing freed
 abbrev pub fresh : Answer
-fresh = Done none 0
+fresh = done none 0
 
 pub data Reply : Type 0 where
   answered : Answer → Reply
@@ -111,20 +106,20 @@ outcome r a = record { reply = r; areas = a }
 
 -- a call of command c refused by r
 unfoldable pub refused_by : Refusal → Command → Reply
-refused_by r c = pick (is_look c) (saw (Unseen r)) (answered (Refused r))
+refused_by r c = pick (is_look c) (saw (Err r)) (answered (Err r))
 
 unfoldable pub refused_call : Refusal → Call → Reply
-refused_call r start = answered (Refused r)
+refused_call r start = answered (Err r)
 refused_call r (does c) = refused_by r c
-refused_call r check = checked (Unchecked r)
+refused_call r check = checked (Err r)
 
 -- state, leader, count of its group, holds of P
 unfoldable pub seen_at : Tables → ℕ → Seen
-seen_at t p = Piece (state t.base p) (get_or t.leaders p 0) (get_or t.counts (get_or t.leaders p 0) 0) (holds_of t.base p)
+seen_at t p = piece_seen (state t.base p) (get_or t.leaders p 0) (get_or t.counts (get_or t.leaders p 0) 0) (holds_of t.base p)
 
 -- its value and the number freed
 unfoldable pub done_by : Base → Command → Answer
-done_by b c = Done (value_of b c) (length (freed_by b c))
+done_by b c = done (value_of b c) (length (freed_by b c))
 
 -- what an accepted command answers
 unfoldable pub accepted_by : Tables → Command → Reply
@@ -210,7 +205,7 @@ accepted_call a start = outcome (answered fresh) (record { store = empty a.store
 accepted_call a (does c) =
     outcome (accepted_by a.store.tables c)
     (record { store = next_store a.store c; list = listing (freed_by a.store.tables.base c) a.list; work = a.work })
-accepted_call a check = outcome (checked (pick (is_sound_store a.store) Yes No)) a
+accepted_call a check = outcome (checked (pick (is_sound_store a.store) (Ok true) (Ok false))) a
 
 -- A refused call leaves the store and the list unchanged; work is unchanged after 1
 unfoldable pub ended : Areas → Call → Verdict → Outcome

@@ -1,13 +1,12 @@
 -- The trace by example: what lines say, near misses among them; how a text is cut into lines; numbers written out.
-use Rattle.std.specs.Prelude.{◌≡◌, refl, List, [], ◌∷◌, ℕ}
+use Rattle.std.specs.Prelude.{◌≡◌, refl, List, [], ◌∷◌, ℕ, Some, None}
 use Prim.Native.String.{String}
 use Rattle.rules.specs.Limits.{none}
 use Rattle.rules.specs.Texts.{bytes}
 use Rattle.rules.specs.Trace.{lines_from, lines_of, digits, decimal_from, number_of_digits, number, word, target, target_word, chosen, says, decimal_in, decimal}
 use Rattle.rules.specs.declared.Command.{Command}
 use Rattle.rules.specs.declared.Command.TheVariants.{New, Set, Freeze, Acquire, Release, Bin, Look}
-use Rattle.rules.specs.declared.Line.{Line}
-use Rattle.rules.specs.declared.Line.TheVariants.{Does, Bad}
+use Rattle.rules.specs.Replies.{Line}
 
 -- all that reading a line and writing a number computes with
 unfoldable pub reading : Unit {0}
@@ -19,10 +18,10 @@ pub record Example : Type 0 where
   pub says : Line
 
 abbrev right : String → Command → Example
-right l c = record { line = l; says = Does c }
+right l c = record { line = l; says = Some c }
 
 abbrev wrong : String → Example
-wrong l = record { line = l; says = Bad }
+wrong l = record { line = l; says = None }
 
 unfoldable pub examples : List Example
 examples =

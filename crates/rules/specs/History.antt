@@ -1,5 +1,5 @@
 -- Demand 3's words: a history of calls, which pieces are held by it, and what a call lists.
-use Rattle.std.specs.Prelude.{◌≡◌, ◌⊎◌, ◌↔◌, Bool, true, false, not, List, [], ◌∷◌, ◌++◌, ℕ, ◌+◌, ◌-◌, ◌<◌, T, eqb, length, take, drop}
+use Rattle.std.specs.Prelude.{◌≡◌, ◌⊎◌, ◌↔◌, Bool, true, false, not, List, [], ◌∷◌, ◌++◌, ℕ, ◌+◌, ◌-◌, ◌<◌, T, eqb, length, take, drop, Ok, Err}
 use Rattle.rules.specs.Tests.{◌or◌, ◌&◌, pick, only_if}
 use Rattle.rules.specs.Limits.{seats}
 use Rattle.rules.specs.Below.{sum}
@@ -10,9 +10,6 @@ use Rattle.rules.specs.Commands.{piece_of, seat_of, is_new, is_freeze, is_acquir
 use Rattle.rules.specs.Calls.{Call, start, does, check, Areas, Reply, answered, saw, checked, Outcome, Promise}
 use Rattle.rules.specs.declared.Command.{Command}
 use Rattle.rules.specs.declared.Command.TheVariants.{Bin}
-use Rattle.rules.specs.declared.Answer.TheVariants.{Done, Refused}
-use Rattle.rules.specs.declared.Seen.TheVariants.{Piece, Unseen}
-use Rattle.rules.specs.declared.Checked.TheVariants.{Yes, No, Unchecked}
 
 -- a call as it was made, and what came of it
 pub record Event : Type 0 where
@@ -23,13 +20,12 @@ abbrev pub event : Call → Outcome → Event
 event c o = record { call = c; came = o }
 
 unfoldable pub is_accepted : Reply → Bool
-is_accepted (answered (Done v f)) = true
-is_accepted (answered (Refused r)) = false
-is_accepted (saw (Piece s l c h)) = true
-is_accepted (saw (Unseen r)) = false
-is_accepted (checked Yes) = true
-is_accepted (checked No) = true
-is_accepted (checked (Unchecked r)) = false
+is_accepted (answered (Ok d)) = true
+is_accepted (answered (Err r)) = false
+is_accepted (saw (Ok p)) = true
+is_accepted (saw (Err r)) = false
+is_accepted (checked (Ok sound)) = true
+is_accepted (checked (Err r)) = false
 
 -- Start from an empty store of capacity n, make any sequence of calls, refused ones included, the accepted ones all at its one capacity and on its
 -- whole tables, and let nothing else write to its tables: the calls, the newest first, and the store that stands after them
@@ -54,8 +50,8 @@ accepted_of f e = is_accepted e.came.reply & commands f e.call
 
 -- the answer's value is p
 unfoldable pub has_value : ℕ → Reply → Bool
-has_value p (answered (Done v f)) = eqb v p
-has_value p (answered (Refused r)) = false
+has_value p (answered (Ok d)) = eqb d.value p
+has_value p (answered (Err r)) = false
 has_value p (saw s) = false
 has_value p (checked c) = false
 
@@ -119,8 +115,8 @@ Held h p = taken p h < added p h
 
 -- the number freed
 unfoldable pub freed_in : Reply → ℕ
-freed_in (answered (Done v f)) = f
-freed_in (answered (Refused r)) = 0
+freed_in (answered (Ok d)) = d.freed
+freed_in (answered (Err r)) = 0
 freed_in (saw s) = 0
 freed_in (checked c) = 0
 

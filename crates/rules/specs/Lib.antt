@@ -8,6 +8,7 @@ pub mod Reach
 pub mod Tables
 pub mod Words
 pub mod Commands
+pub mod Replies
 pub mod Calls
 pub mod Trace
 pub mod Grammar

@@ -1,5 +1,5 @@
 -- The rulebook's small sets, as one table under one theorem.
-use Rattle.std.specs.Prelude.{◌≡◌, refl, Bool, true, false, List, [], ◌∷◌, ℕ, suc, eqb, replicate}
+use Rattle.std.specs.Prelude.{◌≡◌, refl, Bool, true, false, List, [], ◌∷◌, ℕ, suc, eqb, replicate, Ok, Err}
 use Rattle.rules.specs.Tests.{◌&◌, pick}
 use Rattle.rules.specs.Limits.{none}
 use Rattle.rules.specs.Tables.{Store, store_of, is_sound, empty}
@@ -10,8 +10,7 @@ use Rattle.rules.specs.declared.Refusal.{Refusal}
 use Rattle.rules.specs.declared.Refusal.TheVariants.{Seat, Number, Place, Target, Free, FreeTarget, State, Limit, NotHeld, NotYours, Linked, Full}
 use Rattle.rules.specs.declared.Command.{Command}
 use Rattle.rules.specs.declared.Command.TheVariants.{New, Set, Freeze, Acquire, Release, Bin}
-use Rattle.rules.specs.declared.Seen.{Seen}
-use Rattle.rules.specs.declared.Seen.TheVariants.{Piece, Unseen}
+use Rattle.rules.specs.Replies.{Seen}
 
 -- a line of a set: a command and what it answers, a look and what it sees, the links into each draft
 pub data Entry : Type 0 where
@@ -31,8 +30,8 @@ answers s c accepted r v f = eqb 0 r & eqb (value_of s.tables.base c) v & same_l
 answers s c (refused q) r v f = eqb (number_of q) r & is_sound s.tables
 
 unfoldable pub shows : Seen → ℕ → ℕ → ℕ → ℕ → Bool
-shows (Piece x l c h) y m d i = eqb x y & eqb l m & eqb c d & eqb h i
-shows (Unseen r) y m d i = false
+shows (Ok p) y m d i = eqb p.state y & eqb p.leader m & eqb p.count d & eqb p.holds i
+shows (Err r) y m d i = false
 
 unfoldable pub right : Store → List Entry → Bool
 right s [] = is_sound s.tables

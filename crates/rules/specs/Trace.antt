@@ -1,5 +1,6 @@
 -- The rulebook's trace: what a line says, what each line answers, the last line, the output of a whole trace, and what a lent trace gives.
-use Rattle.std.specs.Prelude.{Bool, List, [], ◌∷◌, ◌++◌, ℕ, zero, suc, ◌+◌, ◌*◌, ◌-◌, ◌/◌, ◌%◌, ◌^◌, eqb, ltb, leb, length, get_or, take, drop, replicate}
+use Rattle.std.specs.Prelude.{Bool, List, [], ◌∷◌, ◌++◌, ℕ, zero, suc, ◌+◌, ◌*◌, ◌-◌, ◌/◌, ◌%◌, ◌^◌, eqb, ltb, leb, length, get_or, take, drop}
+use Rattle.std.specs.Prelude.{replicate, Ok, Err, Some, None}
 use Rattle.rules.specs.Tests.{◌&◌, pick, only_if}
 use Rattle.rules.specs.Limits.{most, most_trace, none}
 use Rattle.rules.specs.Below.{sum}
@@ -9,10 +10,7 @@ use Rattle.rules.specs.Calls.{number_of, seen_at}
 use Rattle.rules.specs.declared.Refusal.TheVariants.{Long, Room}
 use Rattle.rules.specs.declared.Command.{Command}
 use Rattle.rules.specs.declared.Command.TheVariants.{New, Set, Freeze, Acquire, Release, Bin, Look}
-use Rattle.rules.specs.declared.Seen.{Seen}
-use Rattle.rules.specs.declared.Seen.TheVariants.{Piece, Unseen}
-use Rattle.rules.specs.declared.Line.{Line}
-use Rattle.rules.specs.declared.Line.TheVariants.{Does, Bad}
+use Rattle.rules.specs.Replies.{Line, Seen}
 
 -- ---- lines
 
@@ -75,39 +73,39 @@ target_word (b ∷ bs) = pick (eqb b 32) (target bs) bad
 
 -- nothing is left of the line
 abbrev pub ends : Command → List ℕ → Line
-ends c [] = Does c
-ends c (b ∷ bs) = Bad
+ends c [] = Some c
+ends c (b ∷ bs) = None
 
 -- `b P`, `l P`
 abbrev pub naming : (ℕ → Command) → Word → Line
-naming c bad = Bad
+naming c bad = None
 naming c (is p rest) = ends (c p) rest
 
 -- `f P S`, `a P S`, `r P S`
 abbrev pub seated_by : (ℕ → ℕ → Command) → ℕ → Word → Line
-seated_by c p bad = Bad
+seated_by c p bad = None
 seated_by c p (is i rest) = ends (c p i) rest
 
 -- `f P`, `a P`, `r P`: without S seat 0 acts
 abbrev pub seated_or : (ℕ → ℕ → Command) → ℕ → List ℕ → Line
-seated_or c p [] = Does (c p 0)
+seated_or c p [] = Some (c p 0)
 seated_or c p (b ∷ bs) = seated_by c p (word (b ∷ bs))
 
 abbrev pub seated : (ℕ → ℕ → Command) → Word → Line
-seated c bad = Bad
+seated c bad = None
 seated c (is p rest) = seated_or c p rest
 
 -- `s P K T`
 abbrev pub set_to : ℕ → ℕ → Word → Line
-set_to p k bad = Bad
+set_to p k bad = None
 set_to p k (is t rest) = ends (Set p k t) rest
 
 abbrev pub set_place : ℕ → Word → Line
-set_place p bad = Bad
+set_place p bad = None
 set_place p (is k rest) = set_to p k (target_word rest)
 
 abbrev pub set_piece : Word → Line
-set_piece bad = Bad
+set_piece bad = None
 set_piece (is p rest) = set_place p (word rest)
 
 -- The first byte of the line chooses the command: n s f a r b l
@@ -119,12 +117,12 @@ chosen b rest =
     (pick (eqb b 97) (seated Acquire (word rest))
     (pick (eqb b 114) (seated Release (word rest))
     (pick (eqb b 98) (naming Bin (word rest))
-    (pick (eqb b 108) (naming Look (word rest)) Bad))))))
+    (pick (eqb b 108) (naming Look (word rest)) None))))))
 
 -- A line that breaks this, is empty, or has over 64 bytes before its end is bad
 unfoldable pub says : List ℕ → Line
-says [] = Bad
-says (b ∷ bs) = pick (leb (length (b ∷ bs)) 64) (chosen b bs) Bad
+says [] = None
+says (b ∷ bs) = pick (leb (length (b ∷ bs)) 64) (chosen b bs) None
 
 -- ---- what each line answers
 
@@ -153,9 +151,9 @@ answer_line refusal value freed =
 
 -- An accepted look gives `0`, state, leader or `-`, count, holds; a refused one is answered as any refused command
 abbrev pub look_line : Seen → List ℕ
-look_line (Piece s l c h) =
-    decimal 0 ++ (32 ∷ (decimal s ++ (32 ∷ (value_or l ++ (32 ∷ (decimal c ++ (32 ∷ (decimal h ++ (10 ∷ [])))))))))
-look_line (Unseen r) = answer_line (number_of r) none []
+look_line (Ok p) =
+    decimal 0 ++ (32 ∷ (decimal p.state ++ (32 ∷ (value_or p.leader ++ (32 ∷ (decimal p.count ++ (32 ∷ (decimal p.holds ++ (10 ∷ [])))))))))
+look_line (Err r) = answer_line (number_of r) none []
 
 -- `x` for a bad one
 abbrev pub bad_line : List ℕ
@@ -170,13 +168,13 @@ line_by t c (refused r) = answer_line (number_of r) none []
 
 -- Each line gives one line ended by byte 10
 unfoldable pub answer_to : Store → Line → List ℕ
-answer_to s (Does c) = line_by s.tables c (verdict s c)
-answer_to s Bad = bad_line
+answer_to s (Some c) = line_by s.tables c (verdict s c)
+answer_to s None = bad_line
 
 -- a bad line changes nothing
 unfoldable pub store_after : Store → Line → Store
-store_after s (Does c) = step_to s c
-store_after s Bad = s
+store_after s (Some c) = step_to s c
+store_after s None = s
 
 -- ---- the whole trace
 

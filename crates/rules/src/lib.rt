@@ -29,10 +29,10 @@ impl Store {
     // The most bytes of a trace lent in memory.
     pub const TRACE: usize = 65536;
 
-    // The mark for none.
+    // The mark for none: a number, as C lends leaders, links and lists.
     pub const NONE: u16 = 65535;
 
-    // The states of a piece: free, draft, frozen.
+    // The states of a piece: free, draft, frozen. Bytes, as C lends them, which may be any.
     pub const FREE: u8 = 0;
 
     pub const DRAFT: u8 = 1;
@@ -43,15 +43,15 @@ impl Store {
     pub fn fresh() -> Answer
         ensures { result ≡ fresh }
     {
-        Answer::Done {
+        Ok(Done {
             value: Store::NONE,
             freed: 0,
-        }
+        })
     }
 }
 
 // The refusals, in the order in which they are checked.
-#[derive(Drop)]
+#[derive(Clone, Copy)]
 pub enum Refusal {
     // N outside 1 to 1,024, an area of the store not exactly its length, list or work too short.
     Size,
@@ -90,32 +90,34 @@ pub enum Refusal {
 }
 
 // The number of a refusal.
-pub fn refusal_number(refusal: Refusal) -> u32
-    ensures { result ≡ number_of refusal }
-{
-    match refusal {
-        Refusal::Size => 1,
-        Refusal::Unsound => 2,
-        Refusal::Seat => 12,
-        Refusal::Number => 3,
-        Refusal::Place => 15,
-        Refusal::Target => 16,
-        Refusal::Free => 4,
-        Refusal::FreeTarget => 17,
-        Refusal::State => 5,
-        Refusal::Limit => 6,
-        Refusal::Register => 14,
-        Refusal::NotHeld => 7,
-        Refusal::NotYours => 13,
-        Refusal::Linked => 8,
-        Refusal::Full => 9,
-        Refusal::Long => 10,
-        Refusal::Room => 11,
+impl From<Refusal> for u32 {
+    ghost from_gives = { λ refusal number. number ≡ number_of refusal };
+
+    fn from(refusal: Refusal) -> u32 {
+        match refusal {
+            Refusal::Size => 1,
+            Refusal::Unsound => 2,
+            Refusal::Seat => 12,
+            Refusal::Number => 3,
+            Refusal::Place => 15,
+            Refusal::Target => 16,
+            Refusal::Free => 4,
+            Refusal::FreeTarget => 17,
+            Refusal::State => 5,
+            Refusal::Limit => 6,
+            Refusal::Register => 14,
+            Refusal::NotHeld => 7,
+            Refusal::NotYours => 13,
+            Refusal::Linked => 8,
+            Refusal::Full => 9,
+            Refusal::Long => 10,
+            Refusal::Room => 11,
+        }
     }
 }
 
 // The commands, in the rulebook's order: the calls that a line of a trace can make.
-#[derive(Drop)]
+#[derive(Clone, Copy)]
 pub enum Command {
     New,
     Set { p: u16, k: u16, t: u16 },
@@ -126,40 +128,30 @@ pub enum Command {
     Look(u16),
 }
 
+// What an accepted call gives, but for look and check: its value, and the number freed.
+#[derive(Clone, Copy)]
+pub struct Done {
+    pub value: u16,
+    pub freed: u16,
+}
+
 // What a call answers, but for look and check.
-#[derive(Drop)]
-pub enum Answer {
-    // Accepted: its value, and the number freed.
-    Done { value: u16, freed: u16 },
-    Refused(Refusal),
+pub type Answer = Result<Done, Refusal>;
+
+// What an accepted look gives: state, leader, count of its group, holds.
+#[derive(Clone, Copy)]
+pub struct Piece {
+    pub state: u8,
+    pub leader: u16,
+    pub count: u32,
+    pub holds: u16,
 }
 
 // What look answers.
-#[derive(Drop)]
-pub enum Seen {
-    // Accepted: state, leader, count of its group, holds.
-    Piece {
-        state: u8,
-        leader: u16,
-        count: u32,
-        holds: u16,
-    },
-    Unseen(Refusal),
-}
+pub type Seen = Result<Piece, Refusal>;
 
-// What check answers.
-#[derive(Drop)]
-pub enum Checked {
-    // The tables are sound.
-    Yes,
-    // They are not.
-    No,
-    Unchecked(Refusal),
-}
+// What check answers: whether the tables are sound.
+pub type Checked = Result<bool, Refusal>;
 
-// What a line of a trace says.
-#[derive(Drop)]
-pub enum Line {
-    Does(Command),
-    Bad,
-}
+// What a line of a trace says: a command, or nothing right.
+pub type Line = Option<Command>;

@@ -1,4 +1,5 @@
 // Set on sound tables: draft P's link K becomes T, and the links into each draft follow.
+// The areas come one by one: some are read and some are written, and a struct of `&mut` slices would need a clause for each that it stays the same slice.
 #![tactic(auto)]
 
 ghost use Rattle.std.specs.Prelude.{◌≤◌, length};
@@ -10,8 +11,7 @@ ghost use Rattle.into.specs.Into.{Into};
 ghost use Rattle.editing.specs.Verdicts.{Worked};
 ghost use Rattle.editing.specs.Set.{Setting};
 
-use naming::Name;
-use rules::{Answer, Refusal, Store};
+use rules::{Answer, Done, Refusal, Store};
 
 // Draft p's link k becomes t; then every frozen piece no longer kept becomes free. Gives how many.
 fn set_place(
@@ -59,20 +59,17 @@ pub fn set_link(
         (tables_effect (answered result) (tables_of n states.new links.new leaders.new holds.now counts.new) list.new)
         × Into n states.new links.new into.new }
 {
-    match naming::link(n, states, p, k, t) {
-        Name::Wrong(refusal) => return Answer::Refused(refusal),
-        Name::Right => {}
-    }
+    naming::link(n, states, p, k, t)?;
     let at = p as usize;
     if states[at] == Store::FROZEN {
-        return Answer::Refused(Refusal::State);
+        return Err(Refusal::State);
     }
     let place = k as usize;
     let was = links[Store::LINKS * at + place] as usize;
     into::follow(n, states, into, at, was, t);
     let freed = set_place(n, states, links, leaders, holds, counts, list, at, place, t) as u16;
-    Answer::Done {
+    Ok(Done {
         value: Store::NONE,
         freed,
-    }
+    })
 }

@@ -18,7 +18,6 @@ use Rattle.tallies.specs.Stores.{live_on, exact_right}
 use Rattle.into.specs.Named.{named_by}
 use Rattle.into.specs.Into.{Into}
 use Rattle.sound.specs.Truthful.{Truthful, tells_same, Below}
-use Rattle.sound.specs.Faults.{Faults}
 use Rattle.sound.specs.Both.{unled, unfrozen, counted_draft, counted_other}
 use Rattle.sound.specs.Leaders.{LeadersRight}
 use Rattle.sound.specs.Counted.{CountedUp}
@@ -48,11 +47,6 @@ pub record Compared (leader p count into counted : ℕ) : Type 0 where
   pub same : counted_of leader count into ≡ counted
   pub other : other_of leader count into ≡ 0
   pub leads : leader ≡ p → 0 < count
-
--- where both are so, its count decides
-pub leads-told : {leader p count into counted r : ℕ} → counted_of leader count into ≡ counted → other_of leader count into ≡ 0 → Faults (leader ≡ p → 0 < count) 1 r
-    → Faults (Compared leader p count into counted) 1 r
-leads-told e z f = record { most = f.most; right = λ h. record { same = e; other = z; leads = f.right h }; none = λ x. f.none x.leads }
 
 -- so at p
 abbrev pub CountFound : ℕ → List ℕ → List ℕ → List ℕ → List ℕ → ℕ → Type 0

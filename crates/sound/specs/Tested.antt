@@ -1,90 +1,78 @@
 -- The links of all pieces are tested, and their holds and links counted on the way.
-use Rattle.std.specs.Prelude.{◌≡◌, Bool, true, false, not, List, ℕ, ◌+◌, ◌*◌, ◌≤◌, ◌<◌, length}
+use Rattle.std.specs.Prelude.{◌≡◌, Bool, true, List, ℕ, ◌+◌, ◌≤◌, ◌<◌}
 use Rattle.std.proofs.Common.{arith, below_more}
 use Rattle.rules.specs.Lists.{◌!◌}
-use Rattle.tallies.specs.Adding.{Labelled, Tallied, LaterSame, later_then, added_later, still}
+use Rattle.rules.specs.Tables.{Tables}
+use Rattle.tallies.specs.Adding.{Labelled, Tallied, LaterSame, added_later, still}
 use Rattle.counts.specs.Added.{HoldAdded, hold_fits, PiecesCounted, pieces_none, pieces_more, pieces_fit, pieces_tallied}
-use Rattle.sound.specs.Truthful.{Truthful, tells_yes, tells_no, told_yes, told-no, was_yes, never, Below}
+use Rattle.sound.specs.Truthful.{Truthful, tells_yes, Below}
 use Rattle.sound.specs.Wells.{Linked}
 use Rattle.sound.specs.Labels.{labels}
-use Rattle.sound.specs.Link.{HoldGiven}
+use Rattle.sound.specs.Link.{Countables, HoldGiven}
 use Rattle.sound.specs.Links.{LinksGiven, LinksTested}
 
 -- what the test of all links is given: counts of 0
-pub record TablesGiven (n : ℕ) (states links leaders holds counts : List ℕ) : Type 0 where
-  pub states_n : length states ≡ n
-  pub links_n : length links ≡ 4 * n
-  pub holds_n : length holds ≡ n
-  pub states_most : Below (λ q. states ! q ≤ 2) n
-  pub leaders_n : length leaders ≡ n
-  pub labelled : Labelled n (labels n leaders) counts
-  pub zeros : (i : ℕ) → i < n → counts ! i ≡ 0
+pub record TablesGiven (t : Tables) (counts : List ℕ) : Type 0 where
+  pub tables : Countables t
+  pub labelled : Labelled t.base.n (labels t.base.n t.leaders) counts
+  pub zeros : (i : ℕ) → i < t.base.n → counts ! i ≡ 0
 
 -- the links of the pieces below p are well, and these pieces are counted
-pub record PiecesTested (n : ℕ) (states links leaders holds : List ℕ) (p : ℕ) (counts counts' : List ℕ) : Type 0 where
-  pub below : p ≤ n
-  pub linked : Below (Linked n states links) p
-  pub counted : PiecesCounted n links holds (labels n leaders) p counts counts'
+pub record PiecesTested (t : Tables) (p : ℕ) (counts counts' : List ℕ) : Type 0 where
+  pub below : p ≤ t.base.n
+  pub linked : Below (Linked t.base.n t.base.states t.base.links) p
+  pub wide : Below (λ q. t.base.holds ! q < 65536) p
+  pub counted : PiecesCounted t.base.n t.base.links t.base.holds (labels t.base.n t.leaders) p counts counts'
 
 -- whether all links are well; if they are, all labels are counted
-pub record AllTested (n : ℕ) (states links leaders holds counts counts' : List ℕ) (r : Bool) : Type 0 where
-  pub tells : Truthful (Below (Linked n states links) n) r
-  pub tallied : r ≡ true → Tallied n links holds (labels n leaders) counts counts'
-  pub kept : LaterSame n counts counts'
+pub record AllTested (t : Tables) (counts counts' : List ℕ) (r : Bool) : Type 0 where
+  pub tells : Truthful (Below (Linked t.base.n t.base.states t.base.links) t.base.n) r
+  pub tallied : r ≡ true → Tallied t.base.n t.base.links t.base.holds (labels t.base.n t.leaders) counts counts'
+  pub kept : LaterSame t.base.n counts counts'
 
-pub pieces_start : {n : ℕ} {states links leaders holds counts : List ℕ} → PiecesTested n states links leaders holds 0 counts counts
-pieces_start = record { below = omega arith; linked = λ p h. absurd (omega arith); counted = pieces_none }
+pub pieces_start : {t : Tables} {counts : List ℕ} → PiecesTested t 0 counts counts
+pieces_start = record { below = omega arith; linked = λ p h. absurd (omega arith); wide = λ p h. absurd (omega arith); counted = pieces_none }
 
-module _ {n : ℕ} {states links leaders holds counts : List ℕ} (g : TablesGiven n states links leaders holds counts)
-    {p : ℕ} {c : List ℕ} (t : PiecesTested n states links leaders holds p counts c) where
-  -- the holds of the next piece may be added, and its links tested
-  module _ (wide : (q : ℕ) → holds ! q < 65536) where
-    fits : (l : ℕ) → l < n → c ! l ≤ 67111936
-    fits = pieces_fit t.counted g.zeros g.labelled.small wide t.below
+module _ {t : Tables} {counts : List ℕ} (g : TablesGiven t counts) {p : ℕ} {c : List ℕ} (x : PiecesTested t p counts c) where
+  fits : (l : ℕ) → l < t.base.n → c ! l ≤ 67111936
+  fits = pieces_fit x.counted g.zeros g.labelled.small x.wide x.below
 
-    pub hold_given : p < n → HoldGiven n leaders holds c p
-    hold_given h = record {
+  -- the holds of the next piece may be added
+  pub hold_given : p < t.base.n → HoldGiven t c p
+  hold_given h = record {
+    below = h;
+    leaders_n = g.tables.leaders_n;
+    holds_n = g.tables.sized.holds;
+    countable = record { labelled = still g.labelled x.counted.added; room = λ l u. omega (arith, fits l u) };
+  }
+
+  -- and then its links tested
+  module _ {c₁ : List ℕ} (h : p < t.base.n) (a : HoldAdded t.base.n t.base.holds (labels t.base.n t.leaders) p c c₁) (wide : t.base.holds ! p < 65536) where
+    pub piece_given : LinksGiven t c₁ p
+    piece_given = record {
+      tables = g.tables;
       below = h;
-      leaders_n = g.leaders_n;
-      holds_n = g.holds_n;
-      countable = record { labelled = still g.labelled t.counted.added; room = λ l u. omega (arith, fits l u) };
+      labelled = still (still g.labelled x.counted.added) a.added;
+      few = λ l u. omega (arith, fits l u, hold_fits a wide l u);
     }
 
-    pub piece_given : {c₁ : List ℕ} → p < n → HoldAdded n holds (labels n leaders) p c c₁ → LinksGiven n states links leaders c₁ p
-    piece_given h a = record {
-      states_n = g.states_n;
-      links_n = g.links_n;
-      states_most = g.states_most;
-      below = h;
-      leaders_n = g.leaders_n;
-      labelled = still (still g.labelled t.counted.added) a.added;
-      few = λ l u. omega (arith, fits l u, hold_fits a (wide p) l u);
-    }
+    module _ {c₂ : List ℕ} {r : Bool} (y : LinksTested t p c₁ c₂ r) where
+      -- they are well
+      pub piece_well : r ≡ true → PiecesTested t (p + 1) counts c₂
+      piece_well e = record {
+        below = omega arith;
+        linked = below_more _ _ x.linked (y.tells.yes e);
+        wide = below_more _ _ x.wide wide;
+        counted = pieces_more x.counted a (y.counted e);
+      }
 
-  module _ {c₁ c₂ : List ℕ} {r : Bool} (h : p < n) (a : HoldAdded n holds (labels n leaders) p c c₁) (x : LinksTested n states links leaders p c₁ c₂ r) where
-    -- its links are well
-    pub piece_well : not r ≡ false → PiecesTested n states links leaders holds (p + 1) counts c₂
-    piece_well e = record {
-      below = omega arith;
-      linked = below_more _ _ t.linked (told_yes x.tells e);
-      counted = pieces_more t.counted a (x.counted (was_yes e));
-    }
-
-    -- they are not
-    pub piece_wrong : not r ≡ true → AllTested n states links leaders holds counts c₂ false
-    piece_wrong e = record {
-      tells = tells_no (λ y. told-no x.tells e (y p h));
-      tallied = never;
-      kept = later_then (later_then (added_later t.counted.added) (added_later a.added)) x.kept;
-    }
-
-  pub pieces_all : n ≤ p → AllTested n states links leaders holds counts c true
+  pub pieces_all : t.base.n ≤ p → AllTested t counts c true
   pieces_all l =
-      let b = t.below in
-      let all : p ≡ n = omega arith in
-      let kept = added_later t.counted.added in
+      let b = x.below in
+      let all : p ≡ t.base.n = omega arith in
+      let kept = added_later x.counted.added in
       record {
-        tells = tells_yes (λ q h. t.linked q (omega arith));
-        tallied = λ _. record { size = kept.size; matches = (pieces_tallied t.counted g.zeros all).matches; later = kept.later };
+        tells = tells_yes (λ q h. x.linked q (omega arith));
+        tallied = λ _. record { size = kept.size; matches = (pieces_tallied x.counted g.zeros all).matches; later = kept.later };
         kept = kept;
       }

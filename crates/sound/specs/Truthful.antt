@@ -1,7 +1,7 @@
 -- An answer that decides a statement, and passes over all pieces.
-use Rattle.std.specs.Prelude.{◌≡◌, refl, Bool, true, false, not, ℕ, ◌<◌, T, eqb}
+use Rattle.std.specs.Prelude.{◌≡◌, refl, Bool, true, false, ℕ, ◌<◌, T, eqb}
 use Rattle.std.proofs.Common.{sym, ◌∙◌, subst, arith, eqb-true}
-use Rattle.std.proofs.lemmas.Bool.{eqb-false, not-true, not-false}
+use Rattle.std.proofs.lemmas.Bool.{eqb-false}
 
 -- r is yes exactly if P holds
 pub record Truthful (P : Type 0) (r : Bool) : Type 0 where
@@ -20,17 +20,7 @@ tells_no f = record { yes = λ e. absurd (apart (sym e)); no = λ _. f }
 pub tells_eq : {P : Type 0} (a b : ℕ) → (a ≡ b → P) → (P → a ≡ b) → Truthful P (eqb a b)
 tells_eq a b f g = record { yes = λ e. f (eqb-true a b e); no = λ e p. eqb-false a b e (g p) }
 
--- what a branch on `!r` says
-pub told-no : {P : Type 0} {r : Bool} → Truthful P r → not r ≡ true → P → ⊥
-told-no {r = r} s e = s.no (not-true r e)
-
-pub told_yes : {P : Type 0} {r : Bool} → Truthful P r → not r ≡ false → P
-told_yes {r = r} s e = s.yes (not-false r e)
-
--- the branch on `!r` not taken, and an answer that is no
-pub was_yes : {r : Bool} → not r ≡ false → r ≡ true
-was_yes {r} e = not-false r e
-
+-- an answer that is no gives anything that a yes would
 pub never : {A : Type 0} → false ≡ true → A
 never e = absurd (apart (sym e))
 

@@ -33,17 +33,6 @@ Linked n states links p = Below (λ j. LinkWell n states (states ! p) (links ! (
 -- ---- what each return of the tests says
 
 module _ {n : ℕ} (states : List ℕ) {s t : ℕ} where
-  pub link_beyond : (t ≡ none → ⊥) → n ≤ t → LinkWell n states s t → ⊥
-  link_beyond some h (inl e) = some e
-  link_beyond some h (inr w) = omega (arith, w.0)
-
-  pub link_low : (t ≡ none → ⊥) → states ! t < s → LinkWell n states s t → ⊥
-  link_low some h w =
-      ⊎_elim
-      (λ z. some z)
-      (λ x. ⊎_elim (λ y. ⊎_elim (λ z. omega (arith, y.0)) (λ z. omega (arith, y.0)) y.1) (λ y. omega (arith, y.0, y.1)) x.1)
-      w
-
   pub link_live : t < n → 0 < s → s ≤ 2 → states ! t ≤ 2 → s ≤ states ! t → LinkWell n states s t
   link_live h l m u x =
       inr (
@@ -53,23 +42,6 @@ module _ {n : ℕ} (states : List ℕ) {s t : ℕ} where
             (λ d. inr (omega (arith, d), omega (arith, d)))
             (eq_or s 1),
       )
-
-module _ {s h : ℕ} where
-  pub holds_over : {r : ℕ} → MostHolds s r → r < h → HoldsWell s h → ⊥
-  holds_over m l w =
-      ⊎_elim
-      (λ x. ⊎_elim (λ y. omega (arith, x.0, y.0)) (λ y. omega (arith, x.1, y.1)) m)
-      (λ x. ⊎_elim (λ y. omega (arith, x.1, y.1)) (λ y. y.0 x.0) m)
-      w
-
-  pub holds_within : {r : ℕ} → s ≤ 2 → MostHolds s r → h ≤ r → HoldsWell s h
-  holds_within k m l = ⊎_elim (λ y. inr (y.0, omega (arith, y.1))) (λ y. inl (omega (arith, y.0), omega (arith, y.1))) m
-
-  pub state-wrong : 2 < s → HoldsWell s h → ⊥
-  state-wrong l w = ⊎_elim (λ x. omega (arith, x.0)) (λ x. omega (arith, x.0)) w
-
-  pub state-most : HoldsWell s h → s ≤ 2
-  state-most w = ⊎_elim (λ x. omega (arith, x.0)) (λ x. omega (arith, x.0)) w
 
 -- ---- the words of the rulebook
 

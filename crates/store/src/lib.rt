@@ -1,12 +1,14 @@
 // The nine public calls: sizes, soundness, then the work; a call that is lent work clears it on the way out, unless a size is wrong.
-#![tactic(auto)]
+// The areas stand one by one, as C lends them: a call borrows what it does not change to read alone. Each call names the tables that are read
+// field by field, since a helper would be handed the same six.
+#![tactic(auto, using(entering::specs::Entered::entered_laws))]
 
 ghost use Rattle.std.specs.Prelude.{[]};
 ghost use Rattle.rules.specs.Tables.{store_of};
 ghost use Rattle.rules.specs.Calls.{start, does, check, areas_of, answered, saw, checked, outcome, Promise};
 ghost use Rattle.rules.specs.declared.Command.TheVariants.{New, Set, Freeze, Acquire, Release, Bin, Look};
 
-use entering::Entry;
+use areas::Tables;
 use rules::{Answer, Checked, Refusal, Seen, Store};
 
 // Any contents become the empty store.
@@ -25,16 +27,24 @@ pub fn start(
         (outcome (answered result)
         (areas_of (store_of n states.new links.new leaders.new holds.new counts.new register.new into.new) [] [])) }
 {
-    if !entering::sized(n, states, links, leaders, holds, counts, register, into) {
-        return Answer::Refused(Refusal::Size);
+    let tables = Tables {
+        n,
+        states,
+        links,
+        leaders,
+        holds,
+        counts,
+    };
+    if !entering::sized(tables, register, into) {
+        return Err(Refusal::Size);
     }
-    areas::fill_u8(states, n, 0);
-    areas::fill_u16(links, Store::LINKS * n, Store::NONE);
-    areas::fill_u16(leaders, n, Store::NONE);
-    areas::fill_u16(holds, n, 0);
-    areas::fill_u32(counts, n, 0);
+    states.fill(Store::FREE);
+    links.fill(Store::NONE);
+    leaders.fill(Store::NONE);
+    holds.fill(0);
+    counts.fill(0);
     register::clear(register);
-    areas::fill_u16(into, n, 0);
+    into.fill(0);
     Store::fresh()
 }
 
@@ -58,29 +68,18 @@ pub fn new(
         (areas_of (store_of n states.new links.now leaders.now holds.now counts.now register.now into.now)
         list.now work.new)) }
 {
-    match entering::enter(
+    let tables = Tables {
         n,
         states,
         links,
         leaders,
         holds,
         counts,
-        register,
-        into,
-        list.len(),
-        work,
-    ) {
-        Entry::Short => Answer::Refused(Refusal::Size),
-        Entry::Flawed => {
-            entering::leave(n, work);
-            Answer::Refused(Refusal::Unsound)
-        }
-        Entry::Sound => {
-            let answer = giving::new(n, states, 0);
-            entering::leave(n, work);
-            answer
-        }
-    }
+    };
+    entering::enter(tables, register, into, list.len(), work)?;
+    let answer = giving::new(n, states, 0);
+    entering::leave(n, work);
+    answer
 }
 
 // Draft P's link K becomes T (none, a draft, a frozen piece, P itself); then every frozen piece no longer kept becomes free.
@@ -105,31 +104,20 @@ pub fn set(
         (outcome (answered result) (areas_of (store_of n states.new links.new leaders.new holds.now counts.new register.now into.new)
         list.new work.new)) }
 {
-    match entering::enter(
+    let tables = Tables {
         n,
         states,
         links,
         leaders,
         holds,
         counts,
-        register,
-        into,
-        list.len(),
-        work,
-    ) {
-        Entry::Short => Answer::Refused(Refusal::Size),
-        Entry::Flawed => {
-            entering::leave(n, work);
-            Answer::Refused(Refusal::Unsound)
-        }
-        Entry::Sound => {
-            let answer = setting::set_link(
-                n, states, links, leaders, holds, counts, into, list, p, k, t,
-            );
-            entering::leave(n, work);
-            answer
-        }
-    }
+    };
+    entering::enter(tables, register, into, list.len(), work)?;
+    let answer = setting::set_link(
+        n, states, links, leaders, holds, counts, into, list, p, k, t,
+    );
+    entering::leave(n, work);
+    answer
 }
 
 // P and every draft it reaches become frozen; P gets one hold of the seat's. If P is frozen already it gets one where the seat has none, and else nothing changes.
@@ -153,31 +141,20 @@ pub fn freeze(
         (outcome (answered result) (areas_of (store_of n states.new links.now leaders.new holds.new counts.new register.new into.new)
         list.now work.new)) }
 {
-    match entering::enter(
+    let tables = Tables {
         n,
         states,
         links,
         leaders,
         holds,
         counts,
-        register,
-        into,
-        list.len(),
-        work,
-    ) {
-        Entry::Short => Answer::Refused(Refusal::Size),
-        Entry::Flawed => {
-            entering::leave(n, work);
-            Answer::Refused(Refusal::Unsound)
-        }
-        Entry::Sound => {
-            let answer = freezing::freeze(
-                n, states, links, leaders, holds, counts, register, into, work, p, seat,
-            );
-            entering::leave(n, work);
-            answer
-        }
-    }
+    };
+    entering::enter(tables, register, into, list.len(), work)?;
+    let answer = freezing::freeze(
+        n, states, links, leaders, holds, counts, register, into, work, p, seat,
+    );
+    entering::leave(n, work);
+    answer
 }
 
 // One hold more of the seat on frozen P.
@@ -201,29 +178,18 @@ pub fn acquire(
         (outcome (answered result) (areas_of (store_of n states.now links.now leaders.now holds.new counts.new register.new into.now)
         list.now work.new)) }
 {
-    match entering::enter(
+    let tables = Tables {
         n,
         states,
         links,
         leaders,
         holds,
         counts,
-        register,
-        into,
-        list.len(),
-        work,
-    ) {
-        Entry::Short => Answer::Refused(Refusal::Size),
-        Entry::Flawed => {
-            entering::leave(n, work);
-            Answer::Refused(Refusal::Unsound)
-        }
-        Entry::Sound => {
-            let answer = holding::acquire(n, states, leaders, holds, counts, register, p, seat);
-            entering::leave(n, work);
-            answer
-        }
-    }
+    };
+    entering::enter(tables, register, into, list.len(), work)?;
+    let answer = holding::acquire(n, states, leaders, holds, counts, register, p, seat);
+    entering::leave(n, work);
+    answer
 }
 
 // One hold less of the seat on frozen P; then every frozen piece no longer kept becomes free.
@@ -247,31 +213,20 @@ pub fn release(
         (outcome (answered result) (areas_of (store_of n states.new links.new leaders.new holds.new counts.new register.new into.now)
         list.new work.new)) }
 {
-    match entering::enter(
+    let tables = Tables {
         n,
         states,
         links,
         leaders,
         holds,
         counts,
-        register,
-        into,
-        list.len(),
-        work,
-    ) {
-        Entry::Short => Answer::Refused(Refusal::Size),
-        Entry::Flawed => {
-            entering::leave(n, work);
-            Answer::Refused(Refusal::Unsound)
-        }
-        Entry::Sound => {
-            let answer = holding::release(
-                n, states, links, leaders, holds, counts, register, list, p, seat,
-            );
-            entering::leave(n, work);
-            answer
-        }
-    }
+    };
+    entering::enter(tables, register, into, list.len(), work)?;
+    let answer = holding::release(
+        n, states, links, leaders, holds, counts, register, list, p, seat,
+    );
+    entering::leave(n, work);
+    answer
 }
 
 // Draft P becomes free; then every frozen piece no longer kept becomes free.
@@ -294,29 +249,18 @@ pub fn bin(
         (outcome (answered result) (areas_of (store_of n states.new links.new leaders.new holds.now counts.new register.now into.new)
         list.new work.new)) }
 {
-    match entering::enter(
+    let tables = Tables {
         n,
         states,
         links,
         leaders,
         holds,
         counts,
-        register,
-        into,
-        list.len(),
-        work,
-    ) {
-        Entry::Short => Answer::Refused(Refusal::Size),
-        Entry::Flawed => {
-            entering::leave(n, work);
-            Answer::Refused(Refusal::Unsound)
-        }
-        Entry::Sound => {
-            let answer = binning::bin(n, states, links, leaders, holds, counts, into, list, p);
-            entering::leave(n, work);
-            answer
-        }
-    }
+    };
+    entering::enter(tables, register, into, list.len(), work)?;
+    let answer = binning::bin(n, states, links, leaders, holds, counts, into, list, p);
+    entering::leave(n, work);
+    answer
 }
 
 // State, leader, count of its group, holds of P; for a draft 1, none, 0, 0.
@@ -338,20 +282,18 @@ pub fn look(
         (outcome (saw result) (areas_of (store_of n states.now links.now leaders.now holds.now counts.now register.now into.now)
         [] work.new)) }
 {
-    match entering::enter(
-        n, states, links, leaders, holds, counts, register, into, n, work,
-    ) {
-        Entry::Short => Seen::Unseen(Refusal::Size),
-        Entry::Flawed => {
-            entering::leave(n, work);
-            Seen::Unseen(Refusal::Unsound)
-        }
-        Entry::Sound => {
-            let seen = looking::look(n, states, links, leaders, holds, counts, p);
-            entering::leave(n, work);
-            seen
-        }
-    }
+    let tables = Tables {
+        n,
+        states,
+        links,
+        leaders,
+        holds,
+        counts,
+    };
+    entering::enter(tables, register, into, n, work)?;
+    let seen = looking::look(tables, p);
+    entering::leave(n, work);
+    seen
 }
 
 // Yes exactly if the store is sound.
@@ -373,17 +315,22 @@ pub fn check(
         (areas_of (store_of n states.now links.now leaders.now holds.now counts.now register.now into.now)
         [] work.new)) }
 {
-    match entering::enter(
-        n, states, links, leaders, holds, counts, register, into, n, work,
-    ) {
-        Entry::Short => Checked::Unchecked(Refusal::Size),
-        Entry::Flawed => {
+    let tables = Tables {
+        n,
+        states,
+        links,
+        leaders,
+        holds,
+        counts,
+    };
+    match entering::enter(tables, register, into, n, work) {
+        Ok(()) => {
             entering::leave(n, work);
-            Checked::No
+            Ok(true)
         }
-        Entry::Sound => {
-            entering::leave(n, work);
-            Checked::Yes
-        }
+        Err(refusal) => match refusal {
+            Refusal::Unsound => Ok(false),
+            _ => Err(refusal),
+        },
     }
 }

@@ -16,50 +16,39 @@ fn gives(text: &[u8], output: &[u8], room: &mut [u8]) -> bool
         (length text.now ≤ most_trace → trace text.now ≡ output.now → result ≡ true) }
 {
     let size = lending::lent_trace(text, room);
-    if size != output.len() as u64 {
-        return false;
-    }
-    *room == *output
+    size == output.len() as u64 && *room == *output
 }
 
-// The bytes of argument i that came: none where there is no such argument, or where it does not fit.
-fn word(rt: HostRuntime, i: usize, name: &mut [u8]) -> usize
-    ensures { result ≤ length name.new }
-{
-    match rt.arg(i, name) {
-        Ok(size) => size,
-        Err(_) => 0,
-    }
+// The bytes of argument i: none where there is no such argument, or where it does not fit.
+fn word<'a>(rt: HostRuntime, i: usize, name: &'a mut [u8]) -> &'a [u8] {
+    let size = rt.arg(i, name).unwrap_or(0);
+    &name[..size]
 }
 
-// Fills the text with a file's bytes, to the file's end or the text's, and answers how many bytes came.
-fn read_full(file: &mut File, text: &mut [u8]) -> usize
-    ensures { result ≤ length text.new }
+// A file's bytes, to its end or as many as fit.
+fn read_full<'a>(file: &mut File, text: &'a mut [u8]) -> &'a [u8]
+    ensures { length result.now ≤ length text.old }
 {
     let mut done = 0;
     while done < text.len() {
-        let Ok(size) = file.read(&mut text[done..]) else {
-            return done;
-        };
-        if size == 0 {
-            return done;
+        match file.read(&mut text[done..]) {
+            Ok(0) | Err(_) => break,
+            Ok(size) => done += size,
         }
-        done += size;
     }
-    done
+    &text[..done]
 }
 
-// Reads the file that argument i names, and answers how many bytes came.
-fn read_file(rt: HostRuntime, i: usize, text: &mut [u8]) -> usize
-    ensures { result ≤ length text.new }
+// The bytes of the file that argument i names: none where it cannot be opened.
+fn read_file<'a>(rt: HostRuntime, i: usize, text: &'a mut [u8]) -> &'a [u8]
+    ensures { length result.now ≤ length text.old }
 {
     let mut name = [0u8; 4096];
-    let size = word(rt, i, &mut name);
-    let Ok(path) = str::from_utf8(&name[..size]) else {
-        return 0;
+    let Ok(path) = str::from_utf8(word(rt, i, &mut name)) else {
+        return &[];
     };
     let Ok(mut file) = File::open(&rt, path) else {
-        return 0;
+        return &[];
     };
     read_full(&mut file, text)
 }
@@ -67,13 +56,13 @@ fn read_file(rt: HostRuntime, i: usize, text: &mut [u8]) -> usize
 // Says of the trace that argument i names whether it gives its output.
 fn say(rt: HostRuntime, i: usize, good: bool) {
     let mut name = [0u8; 4096];
-    let size = word(rt, i, &mut name);
-    let _ = rt.write_all(&name[..size]);
-    let _ = if good {
-        println!(rt; " gives its output")
+    let _ = rt.write_all(word(rt, i, &mut name));
+    let said = if good {
+        "gives its output"
     } else {
-        println!(rt; " gives something else")
+        "gives something else"
     };
+    let _ = println!(rt; " {said}");
 }
 
 // Compares the trace that argument i names with the output that argument j names.
@@ -81,9 +70,9 @@ fn compare(rt: HostRuntime, i: usize, j: usize) {
     let mut text = [0u8; 65536];
     let mut output = [0u8; 65536];
     let mut room = [0u8; 65536];
-    let size = read_file(rt, i, &mut text);
-    let long = read_file(rt, j, &mut output);
-    let good = gives(&text[..size], &output[..long], &mut room[..long]);
+    let trace = read_file(rt, i, &mut text);
+    let wanted = read_file(rt, j, &mut output);
+    let good = gives(trace, wanted, &mut room[..wanted.len()]);
     say(rt, i, good);
 }
 

@@ -1,7 +1,9 @@
 -- What a read leaves behind the bytes that are kept.
-use Rattle.std.specs.Prelude.{◌≡◌, Bool, true, false, List, [], ◌∷◌, ◌++◌, ℕ, ◌+◌, ◌-◌, ◌≤◌, ◌<◌, length, take, drop, set}
+use Rattle.std.specs.Prelude.{◌≡◌, Bool, true, false, Result, Ok, Err, List, [], ◌∷◌, ◌++◌, ℕ, ◌+◌, ◌-◌, ◌≤◌, ◌<◌, length, take, drop, set}
 use Rattle.std.proofs.Common.{sym, ap, ◌∙◌, arith, add-one, length-drop, length-take, length-set, length-take-le, take-suc-set}
 use borrow.Rule.Slice.PartMut.{mid_of, put_mid, same_len_mid, take_put}
+use Rattle.trace.specs.declared.Failure.{Failure}
+use Rattle.trace.specs.declared.Chunk.{Chunk}
 use Rattle.chunks.specs.Says.{closing, closing_some}
 
 -- bytes stand behind the first `kept`, up to `end`; at the end of the input byte 10, if any are kept
@@ -12,8 +14,12 @@ pub record Behind (before : List ℕ) (kept : ℕ) (after : List ℕ) (end : ℕ
   pub over : last ≡ true → take end after ≡ closing (take kept before)
 
 -- what came, where the read did not fail
-pub record Came (before : List ℕ) (kept : ℕ) (after : List ℕ) (end : ℕ) (last failed : Bool) : Type 0 where
-  pub behind : failed ≡ false → Behind before kept after end last
+abbrev pub Comes : List ℕ → ℕ → List ℕ → Result Chunk Failure → Type 0
+Comes before kept after (Ok c) = Behind before kept after c.end c.last
+Comes before kept after (Err _) = Unit {0}
+
+pub record Came (before : List ℕ) (kept : ℕ) (after : List ℕ) (r : Result Chunk Failure) : Type 0 where
+  pub behind : Comes before kept after r
 
 -- ---- laws
 
@@ -81,9 +87,10 @@ module _ {before : List ℕ} {kept : ℕ} (h : kept < length before) (part : Lis
 -- ---- the two answers
 
 -- the read did not fail
-pub came : {before after : List ℕ} {kept end : ℕ} {last : Bool} → Behind before kept after end last → Came before kept after end last false
-came b = record { behind = λ _. b }
+pub came : {before after : List ℕ} {kept end : ℕ} {last : Bool} → Behind before kept after end last
+    → Came before kept after (Ok (record { end = end; last = last }))
+came b = record { behind = b }
 
 -- it failed: nothing is said of the bytes
-pub came_failed : {before after : List ℕ} {kept end : ℕ} {last : Bool} → Came before kept after end last true
-came_failed = record { behind = λ e. not_so (sym e) }
+pub came_failed : {before after : List ℕ} {kept : ℕ} {x : Failure} → Came before kept after (Err x)
+came_failed = record { behind = tt }

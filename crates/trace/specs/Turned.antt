@@ -1,5 +1,5 @@
 -- One turn: a chunk is read behind the bytes that are kept, the whole lines are answered, and the rest is kept.
-use Rattle.std.specs.Prelude.{◌≡◌, Bool, true, false, List, [], ◌++◌, ℕ, ◌+◌, ◌-◌, ◌≤◌, ◌<◌, length, get_or, take, drop}
+use Rattle.std.specs.Prelude.{◌≡◌, Bool, true, false, Result, Ok, Err, Option, Some, None, List, [], ◌++◌, ℕ, ◌+◌, ◌-◌, ◌≤◌, ◌<◌, length, get_or, take, drop}
 use Rattle.std.proofs.Common.{sym, ap, ◌∙◌, subst, arith, length-drop, length-take, get_or-drop, get_or-take, length-take-le, take-add, take-take}
 use Rattle.rules.specs.Limits.{most}
 use Rattle.rules.specs.Tables.{Store}
@@ -7,38 +7,35 @@ use Rattle.rules.specs.Calls.{ReadyStore}
 use Rattle.lines.specs.Ending.{Unended, Closed}
 use Rattle.chunks.specs.Short.{enough}
 use Rattle.chunks.specs.Says.{Says, says-more, says-behind, says-cut, closing, closing_last}
+use Rattle.obeying.specs.Standing.{Standing}
 use Rattle.reader.specs.Answered.{Stands}
 use Rattle.reader.specs.Lines.{NoEnd, Whole, whole_all}
 use Rattle.carrying.specs.Carried.{Carried, rest_of}
 use Rattle.carrying.specs.Sofar.{Sofar, Went, Over, Finished, over_is, sofar_more, sofar_over}
-use Rattle.trace.specs.declared.Lines.{Lines}
-use Rattle.trace.specs.declared.Lines.TheVariants.{Written, Unwritten}
-use Rattle.trace.specs.declared.Next.{Next}
-use Rattle.trace.specs.declared.Next.TheVariants as next
-use Rattle.trace.specs.Served.{Serves, Served}
+use Rattle.trace.specs.declared.Failure.{Failure}
+use Rattle.trace.specs.Served.{Served}
 use Rattle.trace.specs.Came.{Behind}
 
 -- the store stands, and a line without end is kept, or its first 65 bytes
-pub record Keeps (s : Store) (l w buf : List ℕ) (kept from : ℕ) : Type 0 where
-  pub stands : Stands most s l w from
+pub record Keeps (a : Standing) (buf : List ℕ) (kept : ℕ) : Type 0 where
+  pub stands : Stands a.store.tables.base.n a.store a.list a.work a.from
   pub inside : kept ≤ length buf
   pub few : kept ≤ enough
   pub unended : NoEnd buf 0 kept
 
 -- what goes on, or is over, is what the rules give; and the store is sound in any case
-abbrev pub Turns : Store → List ℕ → Store → List ℕ → List ℕ → List ℕ → Next → Type 0
-Turns s before s' l' w' buf' (next.More kept from) = Keeps s' l' w' buf' kept from × Went s before s' (take kept buf')
-Turns s before s' l' w' buf' next.Ended = ReadyStore s' × Over s before s'
-Turns s before s' l' w' buf' next.Unread = ReadyStore s'
-Turns s before s' l' w' buf' next.Unwritten = ReadyStore s'
+abbrev pub Turns : Store → List ℕ → Standing → List ℕ → Result (Option ℕ) Failure → Type 0
+Turns s before a buf (Ok (Some kept)) = Keeps a buf kept × Went s before a.store (take kept buf)
+Turns s before a buf (Ok None) = ReadyStore a.store × Over s before a.store
+Turns s before a buf (Err _) = ReadyStore a.store
 
-pub record Turned (s : Store) (before : List ℕ) (s' : Store) (l' w' buf' : List ℕ) (r : Next) : Type 0 where
-  pub is : Turns s before s' l' w' buf' r
+pub record Turned (s : Store) (before : List ℕ) (a : Standing) (buf : List ℕ) (r : Result (Option ℕ) Failure) : Type 0 where
+  pub is : Turns s before a buf r
 
 -- ---- laws
 
 -- the input could not be read: nothing is answered
-pub turned_unread : {s : Store} {l w buf : List ℕ} {kept from : ℕ} → Keeps s l w buf kept from → {buf' : List ℕ} → Turned s (take kept buf) s l w buf' next.Unread
+pub turned_unread : {a : Standing} {buf : List ℕ} {kept : ℕ} → Keeps a buf kept → {buf' : List ℕ} {x : Failure} → Turned a.store (take kept buf) a buf' (Err x)
 turned_unread k = record { is = k.stands.ready }
 
 -- ---- the whole lines are answered
@@ -62,22 +59,19 @@ module _ {buf buf' : List ℕ} {kept end : ℕ} {last : Bool} (b : Behind buf ke
   pub whole_closed : Closed (take whole buf')
   whole_closed = subst Closed (take-take whole end buf' whole_inside) o.closed
 
-  module _ {s s' : Store} {l' w' : List ℕ} {r : Lines} (v : Served s (take whole buf') s' l' w' r) where
+  module _ {s : Store} {a' : Standing} where
     -- not all was written
-    pub turned_stop : r ≡ Unwritten → Turned s (take kept buf) s' l' w' buf' next.Unwritten
-    turned_stop e = record { is = subst (Serves s (take whole buf') s' l' w') e v.is }
+    pub turned_stop : {x : Failure} → Served s (take whole buf') a' (Err x) → Turned s (take kept buf) a' buf' (Err x)
+    turned_stop v = record { is = v.is }
 
-    module _ {low : ℕ} (all : r ≡ Written low) where
-      served : Serves s (take whole buf') s' l' w' (Written low)
-      served = subst (Serves s (take whole buf') s' l' w') all v.is
-
+    module _ {u : Unit {0}} (v : Served s (take whole buf') a' (Ok u)) where
       -- the input is over
-      pub turned_over : {l w : List ℕ} {from : ℕ} → Keeps s l w buf kept from → last ≡ true → Turned s (take kept buf) s' l' w' buf' next.Ended
+      pub turned_over : {a : Standing} → Keeps a buf kept → last ≡ true → Turned s (take kept buf) a' buf' (Ok None)
       turned_over k h = record {
         is = (
-          served.0.ready,
+          v.is.0.ready,
           over_is (take kept buf) (kept_unended buf kept k.inside k.unended)
-              (subst (λ (t : List ℕ). Says s t served.1.said s' []) text_is served.1.says),
+              (subst (λ (t : List ℕ). Says s t v.is.1.said a'.store []) text_is v.is.1.says),
         );
       }
         where
@@ -127,25 +121,25 @@ module _ {buf buf' : List ℕ} {kept end : ℕ} {last : Bool} (b : Behind buf ke
             ap (λ (k : ℕ). take k buf') (sym e) ∙ take-add kept (end - kept) buf'
             ∙ ap (λ (t : List ℕ). t ++ take (end - kept) (drop kept buf')) (b.on h).1
 
-        pub turned_on : Turned s (take kept buf) s' l' w' buf'' (next.More rest low)
+        pub turned_on : Turned s (take kept buf) a' buf'' (Ok (Some rest))
         turned_on = record {
           is = (
-            record { stands = served.0; inside = c.inside; few = c.few; unended = front_unended },
+            record { stands = v.is.0; inside = c.inside; few = c.few; unended = front_unended },
             record {
               chunk = take (end - kept) (drop kept buf');
-              said = served.1.said ++ [];
-              says = subst (λ (t : List ℕ). Says s t (served.1.said ++ []) s' (take rest buf'')) (sym parts ∙ text_on)
-                  (subst (Says s (take whole buf' ++ left) (served.1.said ++ []) s') (sym c.front)
-                  (says-more (says-behind served.1.says left) (says-cut left left_unended)));
+              said = v.is.1.said ++ [];
+              says = subst (λ (t : List ℕ). Says s t (v.is.1.said ++ []) a'.store (take rest buf'')) (sym parts ∙ text_on)
+                  (subst (Says s (take whole buf' ++ left) (v.is.1.said ++ []) a'.store) (sym c.front)
+                  (says-more (says-behind v.is.1.says left) (says-cut left left_unended)));
             },
           );
         }
 
 -- ---- turn after turn
 
-module _ {s s' : Store} {before l' w' buf' : List ℕ} {r : Next} (o : Sofar most s before) (v : Turned s before s' l' w' buf' r) where
-  pub turned_more : {kept from : ℕ} → r ≡ next.More kept from → Keeps s' l' w' buf' kept from × Sofar most s' (take kept buf')
-  turned_more e = let t = subst (Turns s before s' l' w' buf') e v.is in (t.0, sofar_more o t.1)
+module _ {s : Store} {before : List ℕ} {a' : Standing} {buf' : List ℕ} (o : Sofar most s before) where
+  pub turned_more : {kept : ℕ} → Turned s before a' buf' (Ok (Some kept)) → Keeps a' buf' kept × Sofar most a'.store (take kept buf')
+  turned_more v = (v.is.0, sofar_more o v.is.1)
 
-  pub turned_ended : r ≡ next.Ended → ReadyStore s' × Finished most s'
-  turned_ended e = let t = subst (Turns s before s' l' w' buf') e v.is in (t.0, sofar_over o t.1)
+  pub turned_ended : Turned s before a' buf' (Ok None) → ReadyStore a'.store × Finished most a'.store
+  turned_ended v = (v.is.0, sofar_over o v.is.1)

@@ -7,21 +7,24 @@ use Rattle.binning.proofs.bin_draft.Goals as goal
 pub empty_places-requires : goal.empty_places-requires
 empty_places-requires c = emptying c.requires
 
-pub fall_four-first-requires : goal.fall_four-first-requires
+pub fall_each-first-requires : goal.fall_each-first-requires
 unfolding with_states with_links
-fall_four-first-requires c = edited_tippings (bin_edited c.requires c.empty_places.ensures)
+fall_each-first-requires c = rw c.copy_from_slice.ensures.after (edited_tippings (bin_edited c.requires c.empty_places.ensures))
 
 pub returns-then-first-eq0 : goal.returns-then-first-eq0
 unfolding with_states with_links
 returns-then-first-eq0 c =
-    edited_none (bin_edited c.requires c.empty_places.ensures) c.fall_four-first.ensures c.if-first-eq0.true c.fall_four-first.auto.list
+    let fallen = rw c.copy_from_slice.ensures.after at c.fall_each-first.ensures in
+    edited_none (bin_edited c.requires c.empty_places.ensures) fallen c.if-first-eq0.true c.fall_each-first.auto.list
 
 pub let_go-requires : goal.let_go-requires
 unfolding with_states with_links
-let_go-requires c = edited_going (bin_edited c.requires c.empty_places.ensures) c.fall_four-first.ensures
+let_go-requires c =
+    let fallen = rw c.copy_from_slice.ensures.after at c.fall_each-first.ensures in
+    edited_going (bin_edited c.requires c.empty_places.ensures) fallen
 
 pub returns : goal.returns
 unfolding with_states with_links
 returns c =
-    edited_done (bin_edited c.requires c.empty_places.ensures) c.fall_four-first.ensures c.fall_four-first.auto.list
-    c.let_go.ensures
+    let fallen = rw c.copy_from_slice.ensures.after at c.fall_each-first.ensures in
+    edited_done (bin_edited c.requires c.empty_places.ensures) fallen c.fall_each-first.auto.list c.let_go.ensures

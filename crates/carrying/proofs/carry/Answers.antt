@@ -4,6 +4,4 @@ use Rattle.carrying.specs.Carried.{carried}
 use Rattle.carrying.proofs.carry.Goals as goal
 
 pub returns : goal.returns
-returns c =
-    let moved = c.loop-i.invariant in
-    carried moved.0 c.requires.0 c.requires.1 (omega arith) moved.2
+returns c = carried c.requires.0 c.requires.1 (omega (arith, c.min-size.ensures)) c.copy_within.ensures.after

@@ -2,8 +2,8 @@
 use Rattle.freezing.specs.Found.{found_alone, unmarkable, visitable, found_search}
 use Rattle.freezing.proofs.find.Goals as goal
 
-pub returns-then-size-eq1 : goal.returns-then-size-eq1
-returns-then-size-eq1 c = found_alone c.requires c.if-size-eq1.true
+pub returns-then-queue-eq1 : goal.returns-then-queue-eq1
+returns-then-queue-eq1 c = found_alone c.requires c.if-queue-eq1.true
 
 pub unmark-requires : goal.unmark-requires
 unmark-requires c = unmarkable c.requires

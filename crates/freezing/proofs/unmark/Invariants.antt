@@ -1,10 +1,6 @@
--- `freezing::unmark`: what stands in the queue before j is unmarked.
-use Rattle.std.proofs.Common.{◌-◌, ◌≤◌}
+-- `freezing::unmark`: what stands in the queue before this piece is unmarked.
 use Rattle.freezing.specs.Unmarked.{Unmarked}
 use Rattle.freezing.proofs.unmark.Given as goal
 
-abbrev pub invariant-loop-j : goal.invariant-loop-j
-invariant-loop-j l = record { passed : Unmarked l.n l.fn.work l.j l.work; within : l.j ≤ l.size }
-
-abbrev pub decreases-loop-j : goal.decreases-loop-j
-decreases-loop-j l = l.size - l.j
+abbrev pub invariant-loop-piece : goal.invariant-loop-piece
+invariant-loop-piece l = Unmarked l.n l.fn.work l.queue l.piece-index l.work

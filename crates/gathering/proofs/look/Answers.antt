@@ -1,20 +1,15 @@
 -- `gathering::look` meets its contract: four places, one put each.
-use Rattle.std.proofs.Common.{arith}
-use Rattle.gathering.specs.Looked.{at_none, at_first, at_next, at_putting}
+use Rattle.std.proofs.Common.{◌≡◌, arith}
+use Rattle.gathering.specs.Looked.{at_next, at_putting}
 use Rattle.gathering.proofs.look.Goals as goal
 
-pub put-one-requires : goal.put-one-requires
-put-one-requires c = at_putting c.requires at_none
+pub put-tail-requires : goal.put-tail-requires
+put-tail-requires c = at_putting c.requires c.loop-k.invariant
 
-pub put-two-requires : goal.put-two-requires
-put-two-requires c = at_putting c.requires (at_first c.put-one.ensures)
-
-pub put-three-requires : goal.put-three-requires
-put-three-requires c = at_putting c.requires (at_next (at_first c.put-one.ensures) (omega arith) c.put-two.ensures)
-
-pub put-requires : goal.put-requires
-put-requires c = at_putting c.requires (at_next (at_next (at_first c.put-one.ensures) (omega arith) c.put-two.ensures) (omega arith) c.put-three.ensures)
+pub loop-k-preserved : goal.loop-k-preserved
+loop-k-preserved c = at_next c.loop-k.invariant c.loop-k-test.true c.put-tail.ensures
 
 pub returns : goal.returns
 returns c =
-    at_next (at_next (at_next (at_first c.put-one.ensures) (omega arith) c.put-two.ensures) (omega arith) c.put-three.ensures) (omega arith) c.put.ensures
+    let end : c.loop-k.k ≡ 4 = omega arith in
+    rw end at c.loop-k.invariant

@@ -1,12 +1,12 @@
--- `groups::explore` meets its contract: each way through the loop is one move of the search.
+-- `groups::explore` meets its contract: each place explored is one move of the search.
 use Rattle.paths.specs.Search.{measure}
 use Rattle.groups.specs.Steps.{view}
-use Rattle.groups.specs.Advance.{at, Exploring}
+use Rattle.groups.specs.Class.{in_class}
+use Rattle.groups.specs.Advance.{Exploring}
 use Rattle.groups.proofs.explore.Given as goal
 
-abbrev pub invariant-loop-place : goal.invariant-loop-place
-invariant-loop-place l =
-    Exploring l.n l.states l.links l.class l.initial.work (at l.initial.size l.initial.blocks l.initial.stand l.initial.piece l.initial.place) l.work (at l.size l.blocks l.stand l.piece l.place) l.end
+abbrev pub invariant-loop-at : goal.invariant-loop-at
+invariant-loop-at l = in_class l.class Exploring l.initial.work l.initial.at l.work l.at l.end
 
-abbrev pub decreases-loop-place : goal.decreases-loop-place
-decreases-loop-place l = measure l.n (view l.n l.work (at l.size l.blocks l.stand l.piece l.place)) l.size l.stand
+abbrev pub decreases-loop-at : goal.decreases-loop-at
+decreases-loop-at l = measure l.class.n (view l.class.n l.work l.at) l.at.size l.at.stand

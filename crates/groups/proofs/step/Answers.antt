@@ -3,4 +3,4 @@ use Rattle.groups.specs.Advance.{came_then}
 use Rattle.groups.proofs.step.Goals as goal
 
 pub returns : goal.returns
-returns c = came_then c.explore-b.ensures.came c.finish.ensures
+returns c = came_then c.explore-explored.ensures.came c.finish.ensures

@@ -1,30 +1,13 @@
 -- `into::forget` meets its contract: one link after another is taken off.
 use Rattle.std.proofs.Common.{arith}
-use Rattle.into.specs.Forgotten.{forgetting_first, forgotten_first, forgetting_place, forgotten_more}
+use Rattle.into.specs.Forgotten.{forgotten_none, forgetting_place, forgotten_more}
 use Rattle.into.proofs.forget.Goals as goal
 
+pub loop-k-init : goal.loop-k-init
+loop-k-init c = forgotten_none c.requires
+
 pub less-requires : goal.less-requires
-less-requires c = forgetting_first c.requires
+less-requires c = forgetting_place c.requires (omega arith) c.loop-k.invariant
 
-pub less-requires-2 : goal.less-requires-2
-less-requires-2 c = forgetting_place c.requires (omega arith) (forgotten_first c.requires c.less.ensures)
-
-pub less-requires-3 : goal.less-requires-3
-less-requires-3 c =
-    forgetting_place c.requires (omega arith)
-    (forgotten_more c.requires (omega arith) (forgotten_first c.requires c.less.ensures) c.less-2.ensures)
-
-pub less-requires-4 : goal.less-requires-4
-less-requires-4 c =
-    forgetting_place c.requires (omega arith)
-    (forgotten_more c.requires (omega arith)
-    (forgotten_more c.requires (omega arith) (forgotten_first c.requires c.less.ensures) c.less-2.ensures)
-    c.less-3.ensures)
-
-pub returns : goal.returns
-returns c =
-    forgotten_more c.requires (omega arith)
-    (forgotten_more c.requires (omega arith)
-    (forgotten_more c.requires (omega arith) (forgotten_first c.requires c.less.ensures) c.less-2.ensures)
-    c.less-3.ensures)
-    c.less-4.ensures
+pub loop-k-preserved : goal.loop-k-preserved
+loop-k-preserved c = forgotten_more c.requires (omega arith) c.loop-k.invariant c.less.ensures

@@ -3,4 +3,4 @@ use Rattle.lending.specs.Lent.{lent_over}
 use Rattle.lending.proofs.no_room.Goals as goal
 
 pub returns : goal.returns
-returns c = lent_over c.args.room.now c.clear_from.ensures
+returns c = rw c.refused.ensures (lent_over c.args.room.now (c.fill.ensures.after (λ y e. e)))

@@ -12,17 +12,15 @@ returns-then-n-t c = left_past c.requires.1 c.if-n-t.true
 pub returns-then-states-t-eq-FREE : goal.returns-then-states-t-eq-FREE
 returns-then-states-t-eq-FREE c = left_seen c.requires.1 c.if-n-t.false c.if-l-o.true c.if-states-t-eq-FREE.true
 
-pub offset_bounds-list-tail : goal.offset_bounds-list-tail
-offset_bounds-list-tail c = omega (arith, mate_in c.requires c.if-n-t.false c.if-l-o.true c.if-states-t-eq-FREE.false)
-
-pub bounds-list-tail : goal.bounds-list-tail
-bounds-list-tail c = omega (arith, mate_in c.requires c.if-n-t.false c.if-l-o.true c.if-states-t-eq-FREE.false)
-
-pub overflow_add-result : goal.overflow_add-result
-overflow_add-result c = omega (arith, mate_in c.requires c.if-n-t.false c.if-l-o.true c.if-states-t-eq-FREE.false)
+pub mark-requires : goal.mark-requires
+mark-requires c =
+    let named = target_in c.requires c.if-n-t.false in
+    let mate = mate_in c.requires c.if-n-t.false c.if-l-o.true c.if-states-t-eq-FREE.false in
+    (named.2, omega arith, mate.3)
 
 pub returns-then-l-o : goal.returns-then-l-o
-returns-then-l-o c = left_new c.requires.1 c.if-n-t.false c.if-l-o.true c.if-states-t-eq-FREE.false
+returns-then-l-o c =
+    rw (c.mark.ensures.0, c.mark.ensures.1, c.mark.ensures.2) (left_new c.requires.1 c.if-n-t.false c.if-l-o.true c.if-states-t-eq-FREE.false)
 
 pub bounds-counts-l : goal.bounds-counts-l
 bounds-counts-l c = omega (arith, target_in c.requires c.if-n-t.false)
@@ -33,20 +31,16 @@ overflow_sub-c c = omega (arith, other_in c.requires c.if-n-t.false c.if-l-o.fal
 pub bounds-counts-l-2 : goal.bounds-counts-l-2
 bounds-counts-l-2 c = omega (arith, target_in c.requires c.if-n-t.false)
 
-pub bounds-states-l : goal.bounds-states-l
-bounds-states-l c = omega (arith, target_in c.requires c.if-n-t.false)
-
-pub offset_bounds-list-tail-then-c-eq0 : goal.offset_bounds-list-tail-then-c-eq0
-offset_bounds-list-tail-then-c-eq0 c = omega (arith, other_in c.requires c.if-n-t.false c.if-l-o.false)
-
-pub bounds-list-tail-then-c-eq0 : goal.bounds-list-tail-then-c-eq0
-bounds-list-tail-then-c-eq0 c = omega (arith, other_in c.requires c.if-n-t.false c.if-l-o.false)
-
-pub overflow_add-result-then-c-eq0 : goal.overflow_add-result-then-c-eq0
-overflow_add-result-then-c-eq0 c = omega (arith, other_in c.requires c.if-n-t.false c.if-l-o.false)
+pub mark-requires-then-c-eq0 : goal.mark-requires-then-c-eq0
+mark-requires-then-c-eq0 c =
+    let named = target_in c.requires c.if-n-t.false in
+    let other = other_in c.requires c.if-n-t.false c.if-l-o.false in
+    (named.5, omega arith, other.4)
 
 pub returns-then-c-eq0 : goal.returns-then-c-eq0
-returns-then-c-eq0 c = left_zero c.requires.1 c.if-n-t.false c.if-l-o.false c.if-c-eq0.true
+returns-then-c-eq0 c =
+    let marked = c.mark-then-c-eq0.ensures in
+    rw (marked.0, marked.1, marked.2) (left_zero c.requires.1 c.if-n-t.false c.if-l-o.false c.if-c-eq0.true)
 
 pub returns : goal.returns
 returns c = left_out c.requires.1 c.if-n-t.false c.if-l-o.false c.if-c-eq0.false

@@ -15,14 +15,13 @@ returns-then-counts-l-ne0 c = tipped_counted c.if-n-t.false c.if-counts-l-ne0.tr
 pub returns-then-states-l-eq-FREE : goal.returns-then-states-l-eq-FREE
 returns-then-states-l-eq-FREE c = tipped_there c.if-n-t.false c.if-states-l-eq-FREE.true
 
-pub offset_bounds-list-tail : goal.offset_bounds-list-tail
-offset_bounds-list-tail c = omega (arith, tip_room c.if-n-t.false c.if-n-l.false c.if-counts-l-ne0.false c.if-states-l-eq-FREE.false c.requires)
-
-pub bounds-list-tail : goal.bounds-list-tail
-bounds-list-tail c = omega (arith, tip_room c.if-n-t.false c.if-n-l.false c.if-counts-l-ne0.false c.if-states-l-eq-FREE.false c.requires)
-
-pub overflow_add-result : goal.overflow_add-result
-overflow_add-result c = omega (arith, tip_room c.if-n-t.false c.if-n-l.false c.if-counts-l-ne0.false c.if-states-l-eq-FREE.false c.requires)
+pub mark-requires : goal.mark-requires
+mark-requires c =
+    let room = tip_room c.if-n-t.false c.if-n-l.false c.if-counts-l-ne0.false c.if-states-l-eq-FREE.false c.requires in
+    let sizes = c.requires.falling.core.lengths in
+    (omega (arith, sizes.states_n), omega (arith, sizes.small), room.1)
 
 pub returns : goal.returns
-returns c = tipped_mark c.if-n-t.false c.if-n-l.false c.if-counts-l-ne0.false c.if-states-l-eq-FREE.false
+returns c =
+    rw (c.mark.ensures.0, c.mark.ensures.1, c.mark.ensures.2)
+    (tipped_mark c.if-n-t.false c.if-n-l.false c.if-counts-l-ne0.false c.if-states-l-eq-FREE.false)

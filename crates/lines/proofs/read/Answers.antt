@@ -12,43 +12,41 @@ returns-in-115 c = reads_set c.requires.0 c.in-115.is c.set_line.ensures
 pub returns-in_default-word : goal.returns-in_default-word
 returns-in_default-word c = no_freeze c.requires.0 (sym c.in_default-word.ensures.0) c.in-102.is
 
-pub returns-in-Last : goal.returns-in-Last
-returns-in-Last c = reads_freeze c.requires.0 (sym c.in-Number.ensures.0) c.in-Last.ensures c.in-102.is refl
+pub returns-in_default-seat_line : goal.returns-in_default-seat_line
+returns-in_default-seat_line c = reads_freeze c.requires.0 (sym c.in-Some.ensures.0) c.in_default-seat_line.ensures c.in-102.is refl
 
-pub returns-in-Nothing : goal.returns-in-Nothing
-returns-in-Nothing c = reads_freeze c.requires.0 (sym c.in-Number.ensures.0) c.in-Nothing.ensures c.in-102.is refl
+pub returns-in-Some-seat_line : goal.returns-in-Some-seat_line
+returns-in-Some-seat_line c = reads_freeze c.requires.0 (sym c.in-Some.ensures.0) c.in-Some-seat_line.ensures c.in-102.is refl
 
 pub returns-in_default-word-2 : goal.returns-in_default-word-2
 returns-in_default-word-2 c = no_acquire c.requires.0 (sym c.in_default-word-2.ensures.0) c.in-97.is
 
-pub returns-in-Last-seat_line : goal.returns-in-Last-seat_line
-returns-in-Last-seat_line c = reads_acquire c.requires.0 (sym c.in-Number-word.ensures.0) c.in-Last-seat_line.ensures c.in-97.is refl
+pub returns-in_default-seat_line-2 : goal.returns-in_default-seat_line-2
+returns-in_default-seat_line-2 c = reads_acquire c.requires.0 (sym c.in-Some-word.ensures.0) c.in_default-seat_line-2.ensures c.in-97.is refl
 
-pub returns-in-Nothing-seat_line : goal.returns-in-Nothing-seat_line
-returns-in-Nothing-seat_line c = reads_acquire c.requires.0 (sym c.in-Number-word.ensures.0) c.in-Nothing-seat_line.ensures c.in-97.is refl
+pub returns-in-Some-seat_line-2 : goal.returns-in-Some-seat_line-2
+returns-in-Some-seat_line-2 c = reads_acquire c.requires.0 (sym c.in-Some-word.ensures.0) c.in-Some-seat_line-2.ensures c.in-97.is refl
 
 pub returns-in_default-word-3 : goal.returns-in_default-word-3
 returns-in_default-word-3 c = no_release c.requires.0 (sym c.in_default-word-3.ensures.0) c.in-114.is
 
-pub returns-in-Last-seat_line-2 : goal.returns-in-Last-seat_line-2
-returns-in-Last-seat_line-2 c =
-    reads_release c.requires.0 (sym c.in-Number-word-2.ensures.0) c.in-Last-seat_line-2.ensures c.in-114.is refl
+pub returns-in_default-seat_line-3 : goal.returns-in_default-seat_line-3
+returns-in_default-seat_line-3 c = reads_release c.requires.0 (sym c.in-Some-word-2.ensures.0) c.in_default-seat_line-3.ensures c.in-114.is refl
 
-pub returns-in-Nothing-seat_line-2 : goal.returns-in-Nothing-seat_line-2
-returns-in-Nothing-seat_line-2 c =
-    reads_release c.requires.0 (sym c.in-Number-word-2.ensures.0) c.in-Nothing-seat_line-2.ensures c.in-114.is refl
+pub returns-in-Some-seat_line-3 : goal.returns-in-Some-seat_line-3
+returns-in-Some-seat_line-3 c = reads_release c.requires.0 (sym c.in-Some-word-2.ensures.0) c.in-Some-seat_line-3.ensures c.in-114.is refl
 
-pub returns-in-Last-name_line : goal.returns-in-Last-name_line
-returns-in-Last-name_line c = reads_bin c.requires.0 c.in-98.is c.in-Last-name_line.ensures refl
+pub returns-in_default-name_line : goal.returns-in_default-name_line
+returns-in_default-name_line c = reads_bin c.requires.0 c.in-98.is c.in_default-name_line.ensures refl
 
-pub returns-in-Nothing-name_line : goal.returns-in-Nothing-name_line
-returns-in-Nothing-name_line c = reads_bin c.requires.0 c.in-98.is c.in-Nothing-name_line.ensures refl
+pub returns-in-Some-name_line : goal.returns-in-Some-name_line
+returns-in-Some-name_line c = reads_bin c.requires.0 c.in-98.is c.in-Some-name_line.ensures refl
 
-pub returns-in-Last-name_line-2 : goal.returns-in-Last-name_line-2
-returns-in-Last-name_line-2 c = reads_look c.requires.0 c.in-108.is c.in-Last-name_line-2.ensures refl
+pub returns-in_default-name_line-2 : goal.returns-in_default-name_line-2
+returns-in_default-name_line-2 c = reads_look c.requires.0 c.in-108.is c.in_default-name_line-2.ensures refl
 
-pub returns-in-Nothing-name_line-2 : goal.returns-in-Nothing-name_line-2
-returns-in-Nothing-name_line-2 c = reads_look c.requires.0 c.in-108.is c.in-Nothing-name_line-2.ensures refl
+pub returns-in-Some-name_line-2 : goal.returns-in-Some-name_line-2
+returns-in-Some-name_line-2 c = reads_look c.requires.0 c.in-108.is c.in-Some-name_line-2.ensures refl
 
 pub returns-in_default : goal.returns-in_default
 returns-in_default c =

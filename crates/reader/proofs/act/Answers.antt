@@ -3,8 +3,10 @@ use Rattle.obeying.specs.Freed.{freed_listed, freed_few}
 use Rattle.reader.specs.Answered.{does_answered}
 use Rattle.reader.proofs.act.Goals as goal
 
-pub write_reply-next-requires : goal.write_reply-next-requires
-write_reply-next-requires c = (freed_listed c.obey-done.ensures.did, freed_few c.requires.0.ready c.obey-done.ensures.did, c.requires.1)
+pub write_reply-requires : goal.write_reply-requires
+write_reply-requires c =
+    let did = c.obey-reply.ensures.obeys.did in
+    (rw c.list.ensures (freed_listed did), freed_few c.obey-reply.ensures.stood.ready did, c.requires)
 
-pub returns : goal.returns
-returns c = does_answered c.obey-done.ensures c.write_reply-next.ensures.0 c.write_reply-next.ensures.1
+pub returns-clause-answered : goal.returns-clause-answered
+returns-clause-answered c = does_answered c.obey-reply.ensures.obeys (rw c.list.ensures at c.write_reply.ensures.0) c.write_reply.ensures.1

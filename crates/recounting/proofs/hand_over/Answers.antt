@@ -4,8 +4,7 @@ use Rattle.recounting.specs.Summing.{summing_room, summed_more}
 use Rattle.recounting.proofs.hand_over.Goals as goal
 
 pub overflow_add-counts : goal.overflow_add-counts
-overflow_add-counts c = omega (arith, summing_room c.requires.taking c.loop-j.invariant.passed c.loop-j-test.true)
+overflow_add-counts c = omega (arith, summing_room c.requires.taking c.loop-piece.invariant (omega arith))
 
-pub loop-j-preserved : goal.loop-j-preserved
-loop-j-preserved c =
-    record { passed = summed_more c.requires.taking c.loop-j.invariant.passed c.loop-j-test.true refl refl refl; within = omega arith }
+pub loop-piece-preserved : goal.loop-piece-preserved
+loop-piece-preserved c = rw c.from.ensures (summed_more c.requires.taking c.loop-piece.invariant (omega arith) refl refl refl)

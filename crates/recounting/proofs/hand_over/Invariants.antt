@@ -1,14 +1,7 @@
--- `recounting::hand_over`: the pieces of the queue before j are passed, and what left an entry came to its group's count.
-use Rattle.std.proofs.Common.{◌-◌, ◌≤◌}
+-- `recounting::hand_over`: the pieces of the queue before this one are passed, and what left an entry came to its group's count.
+use Rattle.std.proofs.Common.{length}
 use Rattle.recounting.specs.Summing.{Summed}
 use Rattle.recounting.proofs.hand_over.Given as goal
 
-abbrev pub invariant-loop-j : goal.invariant-loop-j
-invariant-loop-j l =
-    record {
-      passed : Summed l.n l.fn.leaders l.fn.counts l.fn.into l.work l.size l.j l.leaders l.counts l.into;
-      within : l.j ≤ l.size;
-    }
-
-abbrev pub decreases-loop-j : goal.decreases-loop-j
-decreases-loop-j l = l.size - l.j
+abbrev pub invariant-loop-piece : goal.invariant-loop-piece
+invariant-loop-piece l = Summed (length l.fn.leaders) l.fn.leaders l.fn.counts l.fn.into l.found l.queue l.piece-index l.leaders l.counts l.into

@@ -4,8 +4,7 @@ use Rattle.recounting.specs.Turning.{uncounting, turned_more}
 use Rattle.recounting.proofs.turn.Goals as goal
 
 pub uncount-requires : goal.uncount-requires
-uncount-requires c = uncounting c.requires c.loop-j.invariant.passed c.loop-j-test.true
+uncount-requires c = uncounting c.requires c.loop-piece.invariant (omega arith)
 
-pub loop-j-preserved : goal.loop-j-preserved
-loop-j-preserved c =
-    record { passed = turned_more c.requires c.loop-j.invariant.passed c.loop-j-test.true c.uncount.ensures refl; within = omega arith }
+pub loop-piece-preserved : goal.loop-piece-preserved
+loop-piece-preserved c = turned_more c.requires c.loop-piece.invariant (omega arith) c.uncount.ensures refl

@@ -1,10 +1,6 @@
--- `recounting::turn`: the pieces of the queue before j are passed.
-use Rattle.std.proofs.Common.{◌-◌, ◌≤◌}
+-- `recounting::turn`: the pieces of the queue before this one are passed.
 use Rattle.recounting.specs.Turning.{Turned}
 use Rattle.recounting.proofs.turn.Given as goal
 
-abbrev pub invariant-loop-j : goal.invariant-loop-j
-invariant-loop-j l = record { passed : Turned l.n l.fn.states l.links l.fn.counts l.work l.size l.j l.states l.counts; within : l.j ≤ l.size }
-
-abbrev pub decreases-loop-j : goal.decreases-loop-j
-decreases-loop-j l = l.size - l.j
+abbrev pub invariant-loop-piece : goal.invariant-loop-piece
+invariant-loop-piece l = Turned l.n l.fn.states l.links l.leaders l.fn.counts l.queue l.piece-index l.states l.counts

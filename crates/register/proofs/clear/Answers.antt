@@ -1,6 +1,6 @@
 -- `register::clear` meets its contract: a register filled with zeros is the empty one.
-use Rattle.register.specs.Empty.{filled-empty}
+use Rattle.std.proofs.Common.{ℕ, ap, ◌∙◌, replicate}
 use Rattle.register.proofs.clear.Goals as goal
 
 pub returns : goal.returns
-returns c = filled-empty c.args.register.now c.requires c.fill_u16.ensures
+returns c = c.fill.ensures.after (λ y e. e) ∙ ap (λ (k : ℕ). replicate {A = ℕ} k 0) c.requires

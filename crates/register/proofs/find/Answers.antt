@@ -1,19 +1,13 @@
--- `register::find` meets its contract: all used lines are among those that are looked at.
-use Rattle.std.proofs.Common.{arith}
-use Rattle.register.specs.Windows.{among_here, among_all}
+-- `register::find` meets its contract: the pair stands behind the first line, and behind those of which the test holds.
+use Rattle.std.proofs.Common.{◌≡◌, [], ◌-◌, ◌∙◌, ap, rules, arith}
+use Rattle.std.proofs.lemmas.Fn.{always_returns_same}
+use Rattle.register.specs.Halved.{first_told, some_pair, fronts_pair}
+use Rattle.register.specs.Lines.{up_to}
 use Rattle.register.proofs.find.Goals as goal
 
-pub find_among-requires : goal.find_among-requires
-find_among-requires c = (c.requires, among_here c.requires 2 (omega arith) (omega arith) c.if-register-eq0.true)
-
-pub find_among-requires-then-register-eq0-2 : goal.find_among-requires-then-register-eq0-2
-find_among-requires-then-register-eq0-2 c = (c.requires, among_here c.requires 8 (omega arith) (omega arith) c.if-register-eq0-2.true)
-
-pub find_among-requires-then-register-eq0-3 : goal.find_among-requires-then-register-eq0-3
-find_among-requires-then-register-eq0-3 c = (c.requires, among_here c.requires 32 (omega arith) (omega arith) c.if-register-eq0-3.true)
-
-pub find_among-requires-then-register-eq0-4 : goal.find_among-requires-then-register-eq0-4
-find_among-requires-then-register-eq0-4 c = (c.requires, among_here c.requires 128 (omega arith) (omega arith) c.if-register-eq0-4.true)
-
-pub find_among-requires-2 : goal.find_among-requires-2
-find_among-requires-2 c = (c.requires, among_all c.requires)
+pub returns : goal.returns
+returns c =
+    let last = c.order_of-pair.result - 1 in
+    let told = first_told c.requires _ _ c.is_before.ensures (c.lines.ensures.at 0 [] (omega arith)) c.order_of-pair.ensures ∙ c.if-not-is_before.false in
+    let said = c.point.ensures.said (λ x. up_to x last) (always_returns_same _ (λ a r. r ≡ up_to a.0.now last) _ (λ a r f' k. search rules)) (fronts_pair c.requires last) in
+    some_pair c.requires _ _ last told (ap (λ k. k - 1) c.order_of-pair.ensures) said

@@ -1,19 +1,16 @@
--- `register::used` meets its contract: all used lines are among those that are looked at.
-use Rattle.std.proofs.Common.{arith}
-use Rattle.register.specs.Windows.{among_here, among_all}
+-- `register::used` meets its contract: none is used, or the first and those behind it of which the test holds.
+use Rattle.std.proofs.Common.{◌≡◌, rules}
+use Rattle.std.proofs.lemmas.Fn.{always_returns_same}
+use Rattle.register.specs.Halved.{in_use, none_used, some_used, fronts_used}
+use Rattle.rules.specs.Register.{number_at}
 use Rattle.register.proofs.used.Goals as goal
 
-pub used_among-requires : goal.used_among-requires
-used_among-requires c = (c.requires, among_here c.requires 2 (omega arith) (omega arith) c.if-register-eq0.true)
+pub returns-then-register-eq0 : goal.returns-then-register-eq0
+unfolding number_at
+returns-then-register-eq0 c = none_used c.requires c.if-register-eq0.true
 
-pub used_among-requires-then-register-eq0-2 : goal.used_among-requires-then-register-eq0-2
-used_among-requires-then-register-eq0-2 c = (c.requires, among_here c.requires 8 (omega arith) (omega arith) c.if-register-eq0-2.true)
-
-pub used_among-requires-then-register-eq0-3 : goal.used_among-requires-then-register-eq0-3
-used_among-requires-then-register-eq0-3 c = (c.requires, among_here c.requires 32 (omega arith) (omega arith) c.if-register-eq0-3.true)
-
-pub used_among-requires-then-register-eq0-4 : goal.used_among-requires-then-register-eq0-4
-used_among-requires-then-register-eq0-4 c = (c.requires, among_here c.requires 128 (omega arith) (omega arith) c.if-register-eq0-4.true)
-
-pub used_among-requires-2 : goal.used_among-requires-2
-used_among-requires-2 c = (c.requires, among_all c.requires)
+pub returns : goal.returns
+unfolding number_at
+returns c =
+    let same = always_returns_same _ (λ a r. r ≡ in_use a.0.now) _ (λ a r f' k. search rules) in
+    some_used c.requires c.if-register-eq0.false (c.point.ensures.said in_use same (fronts_used c.requires))

@@ -2,8 +2,8 @@
 use Rattle.sound.specs.Link.{hold_counted, hold_none}
 use Rattle.sound.proofs.add_hold.Goals as goal
 
-pub returns-then-holds-p-ne0 : goal.returns-then-holds-p-ne0
-returns-then-holds-p-ne0 c = hold_counted c.requires c.label-l.ensures
+pub returns-then-tables-p-ne0-clause-counted : goal.returns-then-tables-p-ne0-clause-counted
+returns-then-tables-p-ne0-clause-counted c = hold_counted c.requires c.label-l.ensures
 
-pub returns-else-holds-p-ne0 : goal.returns-else-holds-p-ne0
-returns-else-holds-p-ne0 c = hold_none c.requires c.if-holds-p-ne0.false
+pub returns-else-tables-p-ne0-clause-counted : goal.returns-else-tables-p-ne0-clause-counted
+returns-else-tables-p-ne0-clause-counted c = hold_none c.requires c.if-tables-p-ne0.false

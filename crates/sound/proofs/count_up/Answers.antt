@@ -2,8 +2,8 @@
 use Rattle.sound.specs.Counted.{part_given, part_tested}
 use Rattle.sound.proofs.count_up.Goals as goal
 
-pub all_linked-linked-requires : goal.all_linked-linked-requires
-all_linked-linked-requires c = part_given c.requires
+pub all_linked-requires : goal.all_linked-requires
+all_linked-requires c = part_given c.requires
 
 pub returns : goal.returns
-returns c = part_tested c.requires c.all_linked-linked.ensures
+returns c = part_tested c.requires c.all_linked.ensures

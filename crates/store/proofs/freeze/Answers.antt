@@ -1,34 +1,19 @@
--- `store::freeze` keeps its promise: each arm of how it began cites its law, work is cleared on the way out, and each area keeps its length.
-use Rattle.std.proofs.Common.{refl, ap, ◌∙◌, List, ◌++◌, ℕ, ◌*◌, replicate, arith}
+-- `store::freeze` keeps its promise: a wrong size or a flaw is refused; else the work is done, and the work area is cleared.
+use Rattle.std.proofs.Common.{refl, ap, ◌∙◌, List, ◌++◌, ℕ, ◌*◌, replicate}
+use Rattle.std.proofs.lemmas.Result.{err_from_is_err_and}
+use Rattle.rules.specs.Calls.{refused_by, takes_list, clear}
 use Rattle.rules.specs.Commands.{settles}
-use Rattle.rules.specs.Calls.{refused_by, refused_call, takes_list, takes_work, clear}
-use Rattle.entering.specs.Entered.{entered_wide, flawed_leaving, sound_leaving}
-use Rattle.entering.specs.Calls.{short_arm, flawed_arm, unlisted_arm}
+use Rattle.entering.specs.Calls.{refused_arm, unlisted_arm}
 use Rattle.store.proofs.freeze.Goals as goal
 
-pub leave-requires : goal.leave-requires
-leave-requires c = flawed_leaving c.enter.ensures c.in-Flawed.is
-
-pub freeze-answer-requires : goal.freeze-answer-requires
-freeze-answer-requires c = entered_wide c.enter.ensures c.in-Sound.is
-
-pub leave-requires-in-Sound : goal.leave-requires-in-Sound
-leave-requires-in-Sound c =
-    let leaving = sound_leaving c.enter.ensures c.in-Sound.is in
-    (leaving.0, omega (arith, leaving.1, c.freeze-answer.auto.work))
-
-pub returns-in-Short : goal.returns-in-Short
-unfolding refused_by refused_call takes_list takes_work
-returns-in-Short c = search short_arm
-
-pub returns-in-Flawed : goal.returns-in-Flawed
+pub returns-in_err-enter : goal.returns-in_err-enter
 unfolding refused_by takes_list
-returns-in-Flawed c = flawed_arm refl c.enter.ensures c.in-Flawed.is c.leave.ensures
+returns-in_err-enter c =
+    let e = err_from_is_err_and c.from_residual.result c.from_residual.ensures.1 in
+    rw (e.1, e.2) (refused_arm refl c.enter.ensures c.in_err-enter.was)
 
-pub returns-in-Sound : goal.returns-in-Sound
+pub returns : goal.returns
 unfolding takes_list settles clear
-returns-in-Sound c =
-    let sound = c.in-Sound.is in
-    let n = c.args.n in
-    let left = c.leave-in-Sound.ensures ∙ ap (λ (l : List ℕ). replicate (8 * n) 0 ++ l) c.freeze-answer.ensures.later in
-    unlisted_arm refl c.enter.ensures sound c.freeze-answer.ensures.did left
+returns c =
+    let left = c.leave.ensures ∙ ap (λ (l : List ℕ). replicate (8 * c.args.n) 0 ++ l) c.freeze-answer.ensures.later in
+    unlisted_arm refl c.enter.ensures c.in_ok-enter.was c.freeze-answer.ensures.did left

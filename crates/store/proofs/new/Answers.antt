@@ -1,33 +1,22 @@
--- `store::new` keeps its promise: each arm of how it began cites its law, work is cleared on the way out, and each area keeps its length.
-use Rattle.std.proofs.Common.{refl, zero-le, arith}
+-- `store::new` keeps its promise: a wrong size or a flaw is refused; else the work is done, and the work area is cleared.
+use Rattle.std.proofs.Common.{refl}
+use Rattle.std.proofs.lemmas.Result.{err_from_is_err_and}
+use Rattle.rules.specs.Calls.{refused_by, takes_list}
 use Rattle.rules.specs.Commands.{settles}
-use Rattle.rules.specs.Calls.{refused_by, refused_call, takes_list, takes_work}
 use Rattle.into.specs.Stores.{leaves_into}
 use Rattle.laws.specs.Verdicts.{bare_did}
-use Rattle.giving.specs.Gave.{giving_of}
-use Rattle.entering.specs.Entered.{entered_tables, flawed_leaving, sound_leaving}
-use Rattle.entering.specs.Calls.{short_arm, flawed_arm, still_unlisted_arm}
+use Rattle.entering.specs.Entered.{entered_tables}
+use Rattle.entering.specs.Calls.{refused_arm, still_unlisted_arm}
 use Rattle.store.proofs.new.Goals as goal
 
-pub leave-requires : goal.leave-requires
-leave-requires c = flawed_leaving c.enter.ensures c.in-Flawed.is
-
-pub new-answer-requires : goal.new-answer-requires
-new-answer-requires c = giving_of (entered_tables c.enter.ensures c.in-Sound.is) zero-le (λ q h. absurd (omega arith))
-
-pub leave-requires-in-Sound : goal.leave-requires-in-Sound
-leave-requires-in-Sound c = sound_leaving c.enter.ensures c.in-Sound.is
-
-pub returns-in-Short : goal.returns-in-Short
-unfolding refused_by refused_call takes_list takes_work
-returns-in-Short c = search short_arm
-
-pub returns-in-Flawed : goal.returns-in-Flawed
+pub returns-in_err-enter : goal.returns-in_err-enter
 unfolding refused_by takes_list
-returns-in-Flawed c = flawed_arm refl c.enter.ensures c.in-Flawed.is c.leave.ensures
+returns-in_err-enter c =
+    let e = err_from_is_err_and c.from_residual.result c.from_residual.ensures.1 in
+    rw (e.1, e.2) (refused_arm refl c.enter.ensures c.in_err-enter.was)
 
-pub returns-in-Sound : goal.returns-in-Sound
+pub returns : goal.returns
 unfolding takes_list settles leaves_into
-returns-in-Sound c =
-    let sound = c.in-Sound.is in
-    still_unlisted_arm c.enter.ensures sound refl refl (bare_did refl (c.new-answer.ensures.did (entered_tables c.enter.ensures sound))) c.leave-in-Sound.ensures
+returns c =
+    let sound = c.in_ok-enter.was in
+    still_unlisted_arm c.enter.ensures sound refl refl (bare_did refl (c.new-answer.ensures.did (entered_tables c.enter.ensures sound))) c.leave.ensures

@@ -1,4 +1,4 @@
--- What is fed more is served too, and the areas keep their lengths.
+-- What is fed more is served too.
 use Rattle.std.proofs.Common.{arith}
 use Rattle.trace.specs.Served.{serving_more}
 use Rattle.trace.proofs.serve.Goals as goal

@@ -4,4 +4,4 @@ use Rattle.reader.specs.Blocks.{high_all}
 use Rattle.reader.proofs.blocks.has_low.Goals as goal
 
 pub returns : goal.returns
-returns c = λ e. high_all c.args.text.now c.args.at (λ l b. c.loop-i.invariant.1 e l (omega arith))
+returns c = λ e. high_all c.args.text.now c.args.at (λ l b. c.loop-i.invariant e l (omega arith))

@@ -4,7 +4,7 @@ use Rattle.reader.specs.Lines.{NoEnd}
 use Rattle.reader.proofs.blocks.pass_back.Given as goal
 
 abbrev pub invariant-loop-r : goal.invariant-loop-r
-invariant-loop-r l = (l.to ≤ l.r) × (l.r ≤ length l.text) × NoEnd l.text l.r (length l.text)
+invariant-loop-r g l = (l.to ≤ l.r) × (l.r ≤ l.from) × NoEnd l.text l.r (length l.text)
 
 abbrev pub decreases-loop-r : goal.decreases-loop-r
-decreases-loop-r l = l.r
+decreases-loop-r g l = l.r
