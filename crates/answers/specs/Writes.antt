@@ -4,8 +4,9 @@ use Rattle.std.proofs.Common.{sym, ◌∙◌, append_assoc, append-nil, arith, a
 use Rattle.std.proofs.lemmas.List.Edits.{sets}
 use Rattle.std.proofs.lemmas.List.{set_comm}
 use Rattle.rules.specs.Trace.{decimal, value_or, spaced, answer_line}
-use Rattle.answers.specs.Wrote.{Wrote, digits_of, closing_line}
-use Rattle.answers.specs.Decimals.{length_digits}
+use Rattle.answers.specs.Wrote.{Wrote, digits_of, piece_line, closing_line}
+use Rattle.rules.specs.Limits.{none}
+use Rattle.answers.specs.Decimals.{length_digits, decimal_small, value_none}
 
 sets_append : (l : List ℕ) (i : ℕ) (xs ys : List ℕ) → sets l i (xs ++ ys) ≡ sets (sets l i xs) (i + length xs) ys
 sets_append l i [] ys = rw (add-zero i)
@@ -58,6 +59,14 @@ pub plain_line : (number value : ℕ)
     → answer_line number value [] ≡ decimal number ++ (32 ∷ (value_or value ++ (32 ∷ (decimal 0 ++ (10 ∷ [])))))
 unfolding answer_line spaced
 plain_line number value = refl
+
+-- `-` and 0 are the same bytes always
+pub bare_line : (number : ℕ) → answer_line number none [] ≡ decimal number ++ (32 ∷ 45 ∷ 32 ∷ 48 ∷ 10 ∷ [])
+bare_line number = plain_line number none ∙ rw (value_none none refl, decimal_small 0 (omega arith))
+
+-- so is the line of a draft
+pub draft_line : piece_line 1 none 0 0 ≡ 48 ∷ 32 ∷ 49 ∷ 32 ∷ 45 ∷ 32 ∷ 48 ∷ 32 ∷ 48 ∷ 10 ∷ []
+draft_line = rw (value_none none refl, decimal_small 0 (omega arith), decimal_small 1 (omega arith))
 
 pub closing-line : (drafts frozen groups : ℕ)
     → closing_line drafts frozen groups

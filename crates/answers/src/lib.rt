@@ -72,7 +72,8 @@ impl<'a> Page<'a> {
         self.byte(b'0' + o);
     }
 
-    // A number in decimal, without leading zeros. By hand: the digits of the library `itoa` were tried, and a line took a sixth to a third more instructions.
+    // A number in decimal, without leading zeros, compiled into each line. By hand: the digits of the library `itoa` were tried, and a line took a sixth to a third more instructions.
+    #[inline(always)]
     fn number(&mut self, v: u32)
         requires { self.old.at + 10 ≤ length self.old.out.now }
         ensures puts { Puts (decimal v) self.old self.new }
@@ -141,6 +142,20 @@ impl<'a> Page<'a> {
         self.byte(b'\n');
     }
 
+    // The line of a number, `-` and 0: what follows the number is the same bytes always, which are written at once.
+    fn bare(&mut self, number: u32)
+        requires { self.old.at + 64 ≤ length self.old.out.now }
+        ensures puts { Puts (answer_line number none []) self.old self.new }
+        ensures upper_bound { self.new.at ≤ self.old.at + 64 }
+    {
+        self.number(number);
+        self.byte(b' ');
+        self.byte(b'-');
+        self.byte(b' ');
+        self.byte(b'0');
+        self.byte(b'\n');
+    }
+
     // The line of an accepted command but look: `0`, value or `-`, number freed, then the freed numbers.
     fn done(&mut self, value: u16, freed: &[u16])
         requires { (length freed.now < 65536) × (self.old.at + 64 + 6 * length freed.now ≤ length self.old.out.now) }
@@ -149,7 +164,7 @@ impl<'a> Page<'a> {
     {
         if freed.len() == 0 {
             if value == Store::NONE {
-                self.plain(0, Store::NONE);
+                self.bare(0);
             } else {
                 self.plain(0, value);
             }
@@ -170,7 +185,7 @@ impl<'a> Page<'a> {
         ensures puts { Puts (answer_line (number_of refusal) none []) self.old self.new }
         ensures upper_bound { self.new.at ≤ self.old.at + 64 }
     {
-        self.plain(u32::from(refusal), Store::NONE);
+        self.bare(u32::from(refusal));
     }
 
     // The line of an answer, whose freed numbers are the first of the list.
@@ -201,6 +216,43 @@ impl<'a> Page<'a> {
         self.word(piece.count);
         self.word(u32::from(piece.holds));
         self.byte(b'\n');
+    }
+
+    // The line of a look at a draft without holds: the same bytes always, which are written at once.
+    fn draft(&mut self)
+        requires { self.old.at + 64 ≤ length self.old.out.now }
+        ensures puts { Puts (piece_line 1 none 0 0) self.old self.new }
+        ensures upper_bound { self.new.at ≤ self.old.at + 64 }
+    {
+        self.byte(b'0');
+        self.byte(b' ');
+        self.byte(b'1');
+        self.byte(b' ');
+        self.byte(b'-');
+        self.byte(b' ');
+        self.byte(b'0');
+        self.byte(b' ');
+        self.byte(b'0');
+        self.byte(b'\n');
+    }
+
+    // The line of an accepted look, a draft's by itself.
+    fn seen(&mut self, piece: Piece)
+        requires { self.old.at + 64 ≤ length self.old.out.now }
+        ensures puts { Puts (piece_line piece.state piece.leader piece.count piece.holds) self.old self.new }
+        ensures upper_bound { self.new.at ≤ self.old.at + 64 }
+    {
+        let Piece {
+            state,
+            leader,
+            count,
+            holds,
+        } = piece;
+        if leader == Store::NONE && state == Store::DRAFT && count == 0 && holds == 0 {
+            self.draft();
+        } else {
+            self.piece(piece);
+        }
     }
 
     // The last line: `=`, drafts, frozen pieces, groups.
@@ -247,7 +299,7 @@ pub fn put_look(out: &mut [u8], at: usize, seen: Seen) -> usize
 {
     let mut page = Page { out, at };
     match seen {
-        Ok(piece) => page.piece(piece),
+        Ok(piece) => page.seen(piece),
         Err(refusal) => page.refused(refusal),
     }
     page.at

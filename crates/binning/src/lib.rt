@@ -61,8 +61,7 @@ fn bin_draft(
         (tables_of n states.new links.new leaders.new holds.now counts.new) list.new result }
 {
     let at = Store::LINKS * p;
-    let mut named = [Store::NONE; Store::LINKS];
-    named.copy_from_slice(&links[at..at + Store::LINKS]);
+    let named = [links[at], links[at + 1], links[at + 2], links[at + 3]];
     empty_places(n, links, leaders, counts, p);
     states[p] = Store::FREE;
     let first = fall_each(n, states, leaders, counts, list, &named);

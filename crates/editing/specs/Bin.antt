@@ -165,6 +165,26 @@ module _ {s : Tables} {list : List ℕ} {p : ℕ} (g : Binning s list p) where
   abbrev olds : List ℕ
   olds = slice_range b.links (4 * p) (4 * p + 4)
 
+  -- they are four
+  pub four_olds : b.links ! (4 * p) ∷ b.links ! (4 * p + 1) ∷ b.links ! (4 * p + 2) ∷ b.links ! (4 * p + 3) ∷ [] ≡ olds
+  four_olds = ext_get_or 0 four olds (sym (omega (arith, length-between b.links (4 * p) (4 * p + 4) room))) at
+    where
+      room : 4 * p + 4 ≤ length b.links
+      room = omega (arith, g.ready.sized.base.links, g.named.below)
+
+      four : List ℕ
+      four = b.links ! (4 * p) ∷ b.links ! (4 * p + 1) ∷ b.links ! (4 * p + 2) ∷ b.links ! (4 * p + 3) ∷ []
+
+      entry : (k : ℕ) → k < 4 → olds ! k ≡ b.links ! (4 * p + k)
+      entry k h = get_or-between b.links (4 * p) (4 * p + 4) k 0 (omega arith)
+
+      at : (k : ℕ) → k < 4 → four ! k ≡ olds ! k
+      at zero h = ap (λ (i : ℕ). b.links ! i) (omega arith) ∙ sym (entry 0 h)
+      at (suc zero) h = sym (entry 1 h)
+      at (suc (suc zero)) h = sym (entry 2 h)
+      at (suc (suc (suc zero))) h = sym (entry 3 h)
+      at (suc (suc (suc (suc k)))) h = absurd (omega arith)
+
   among_olds : (i : ℕ) → 4 * p ≤ i → i < 4 * p + 4 → Among (b.links ! i) olds
   among_olds i u v =
       let e : 4 * p + (i - 4 * p) ≡ i = omega arith in

@@ -1,6 +1,6 @@
 -- What stands in the queue is marked as unseen, for the search.
 use Rattle.std.specs.Prelude.{◌≡◌, ◌⊎◌, List, ℕ, ◌+◌, ◌*◌, ◌≤◌, ◌<◌, length, set}
-use Rattle.std.proofs.Common.{ap, ◌∙◌, inl, inr, ⊎_elim, arith, length-set}
+use Rattle.std.proofs.Common.{ap, ◌∙◌, inl, inr, ⊎_elim, arith, length-set, get_or-set_other}
 use Rattle.rules.specs.Lists.{◌!◌}
 use Rattle.laws.specs.Numbers.{eq_or, set_cases}
 
@@ -14,6 +14,7 @@ pub record Unmarkable (n : ℕ) (work queue : List ℕ) : Type 0 where
 pub record Unmarked (n : ℕ) (work queue : List ℕ) (j : ℕ) (work' : List ℕ) : Type 0 where
   pub size : length work' ≡ length work
   pub zeros : (i : ℕ) → i < j → (work' ! (queue ! i) ≡ 0) × (work' ! (n + queue ! i) ≡ 0)
+  pub same : (i : ℕ) → 2 * n ≤ i → work' ! i ≡ work ! i
 
 module _ {n : ℕ} {work queue : List ℕ} (g : Unmarkable n work queue) {j : ℕ} {work₁ : List ℕ} (a : Unmarked n work queue j work₁) (more : j < length queue) where
   abbrev q : ℕ
@@ -41,4 +42,7 @@ module _ {n : ℕ} {work queue : List ℕ} (g : Unmarkable n work queue) {j : �
         let y = g.each i (omega arith) in
         (after (queue ! i) (omega arith) (inr z.0), after (n + queue ! i) (omega arith) (inr z.1)))
         (eq_or i j);
+    same = λ i h.
+        let y = g.each j more in
+        get_or-set_other (set work₁ q 0) (n + q) i 0 0 (λ e. absurd (omega arith)) ∙ get_or-set_other work₁ q i 0 0 (λ e. absurd (omega arith)) ∙ a.same i h;
   }

@@ -37,9 +37,12 @@ module _ {starts : List ℕ} {position b : ℕ} (I : Cutting starts position b) 
     above = λ i a u. I.above i (omega arith) u;
   }
 
-  -- one block is left
-  pub cut_first : Blocks starts position → b ≤ 1 → Cut starts position 1
-  cut_first B h = record { some = omega arith; le = omega (arith, B.some); below = B.base; above = λ i a u. I.above i (omega arith) u }
+  -- the first block does not
+  pub more_blocks : Blocks starts position → position < starts ! (b - 1) → 1 < b
+  more_blocks B lt = ⊎_elim
+      (λ h. h)
+      (λ h. let z : b - 1 ≡ 0 = omega arith in absurd (omega (arith, ap (λ (i : ℕ). starts ! i) z, B.base)))
+      (lt_or 1 b)
 
 -- ---- the lowest piece
 

@@ -74,16 +74,16 @@ fn push(n: usize, work: &mut [u32], at: At, piece: usize) -> At
 }
 
 // How many blocks are left when those that start above a position are merged into the one below.
+// The first does not start above it: so the loop asks for no end, as a `for` would at each block.
 fn merge(starts: &[u32], position: usize) -> usize
     requires { Blocks starts.now position }
     ensures { Cut starts.now position result }
 {
-    for last in (1..starts.len()).rev() {
-        if starts[last] as usize <= position {
-            return last + 1;
-        }
+    let mut left = starts.len();
+    while position < starts[left - 1] as usize {
+        left -= 1;
     }
-    1
+    left
 }
 
 // The place from which on a piece names nothing, where its four links at once show it after one place or two; else 4.

@@ -13,7 +13,7 @@ fn counts_for(n: usize, states: &[u8], r: usize, t: usize) -> bool
     requires { length states.now ≡ n }
     ensures { Counting n states.now r t result }
 {
-    t < n && t != r && states[t] == Store::DRAFT
+    t < n && states[t] == Store::DRAFT && t != r
 }
 
 // One link more from piece r to t.

@@ -1,5 +1,5 @@
 -- What a lent trace gives: the output in the room, then zeros, or a refusal's number.
-use Rattle.std.specs.Prelude.{◌≡◌, not, Option, None, Some, List, [], ◌++◌, ℕ, ◌+◌, ◌-◌, ◌^◌, ◌≤◌, ◌<◌, T, leb, take, replicate}
+use Rattle.std.specs.Prelude.{◌≡◌, not, None, Some, List, [], ◌++◌, ℕ, ◌+◌, ◌-◌, ◌^◌, ◌≤◌, ◌<◌, T, leb, take, replicate}
 use Rattle.std.proofs.Math.Path.{sym, ap}
 use Rattle.std.proofs.Common.{◌∙◌, subst, arith, append-nil, drop, drop_of_length-le, le→leb, leb→le, length-append, length-drop, length-take, length-take-le}
 use Rattle.std.proofs.Math.Dec.{not_T}

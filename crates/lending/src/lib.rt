@@ -7,6 +7,7 @@ ghost use Rattle.rules.specs.Trace.{in_room, lent_trace};
 ghost use Rattle.lines.specs.Ending.{Closed};
 ghost use Rattle.chunks.specs.Short.{enough};
 ghost use Rattle.answers.specs.Wrote.{longest};
+ghost use Rattle.obeying.specs.Held.{held, Same};
 ghost use Rattle.lending.specs.Poured.{Poured};
 ghost use Rattle.lending.specs.Filled.{Ends, Filled};
 ghost use Rattle.lending.specs.Lent.{given};
@@ -23,6 +24,8 @@ fn refused(refusal: Refusal) -> u64
 }
 
 // Answers a text whose last byte is 10 into the room behind what is written there: where that ends; None where the room is too small.
+// Compiled into `lent_trace`, where `out` is an array of its own: so the library copies by memcpy, and asks for no memmove.
+#[inline(always)]
 fn pour(
     text: &[u8],
     areas: &mut Areas,
@@ -31,7 +34,8 @@ fn pour(
     start: usize,
 ) -> Option<usize>
     requires { Closed text.now × (longest ≤ length out.old) × (start ≤ length room.old) }
-    ensures { Poured areas.old.store text.now room.old start areas.new room.new result }
+    ensures poured { Poured (held areas.old).store text.now room.old start (held areas.new) room.new result }
+    ensures same { Same areas.old areas.new }
 {
     let mut at = 0;
     let mut size = start;
@@ -64,9 +68,11 @@ fn end_line(line: &[u8], last: &mut [u8]) -> usize
 }
 
 // Answers a whole text into the room: its whole lines, then what is left of it as a line.
+#[inline(always)]
 fn pour_all(text: &[u8], areas: &mut Areas, out: &mut [u8], room: &mut [u8]) -> Option<usize>
     requires { longest ≤ length out.old }
-    ensures { Filled areas.old.store text.now room.old areas.new room.new result }
+    ensures filled { Filled (held areas.old).store text.now room.old (held areas.new) room.new result }
+    ensures same { Same areas.old areas.new }
 {
     let whole = reader::whole(text);
     let size = pour(&text[..whole], areas, out, room, 0)?;
@@ -125,6 +131,7 @@ pub fn lent_trace(text: &[u8], room: &mut [u8]) -> u64
         &mut into,
         &mut list,
         &mut work,
+        0,
     );
     let mut out = [0u8; 8192];
     let Some(size) = pour_all(text, &mut areas, &mut out, room) else {

@@ -3,3 +3,5 @@ pub mod Obeyed
 pub mod Freed
 pub mod From
 pub mod Arms
+pub mod Tested
+pub mod Held

@@ -7,10 +7,10 @@ ghost use Rattle.rules.specs.Calls.{answered};
 ghost use Rattle.rules.specs.History.{freed_in};
 ghost use Rattle.areas.specs.Read.{told};
 ghost use Rattle.obeying.specs.Obeyed.{reply_of, Stands, Obeys, above_of, Lower, LowerBin};
+ghost use Rattle.obeying.specs.Tested.{Tested};
 
 use areas::Tables;
 use rules::{Answer, Command, Seen};
-use std::marker::Model;
 
 // What a command answers.
 #[derive(Clone, Copy)]
@@ -19,39 +19,11 @@ pub enum Reply {
     Saw(Seen),
 }
 
-// The areas of a sound store, room for the list and for the work, and a number below which nothing is free.
-#[derive(Drop)]
-pub struct Areas<'a> {
-    n: usize,
-    states: &'a mut [u8],
-    links: &'a mut [u16],
-    leaders: &'a mut [u16],
-    holds: &'a mut [u16],
-    counts: &'a mut [u32],
-    register: &'a mut [u16],
-    into: &'a mut [u16],
-    list: &'a mut [u16],
-    work: &'a mut [u32],
-    from: usize,
-}
-
-impl<'a> Model for Areas<'a> {
-    ghost use Rattle.rules.specs.Tables.{store_of};
-    ghost use Rattle.obeying.specs.Obeyed.{Stands};
-    ghost use Rattle.obeying.specs.Standing.{Standing};
-
-    ghost Value = { Standing };
-
-    ghost view = { λ a. record {
-      store = store_of a.n a.states.now a.links.now a.leaders.now a.holds.now a.counts.now a.register.now a.into.now;
-      list = a.list.now;
-      work = a.work.now;
-      from = a.from;
-    } };
-
-    ghost invariant = { λ a. Stands a.n
-        (store_of a.n a.states.now a.links.now a.leaders.now a.holds.now a.counts.now a.register.now a.into.now)
-        a.list.now a.work.now a.from };
+// What a command answers, and a number below which nothing is free after it.
+#[derive(Clone, Copy)]
+pub struct Obeyed {
+    pub reply: Reply,
+    pub from: usize,
 }
 
 // After new: above the number that was given out.
@@ -91,27 +63,151 @@ fn lower_bin(answer: Answer, list: &[u16], from: usize, p: u16) -> usize
     lower(answer, list, from.min(binned))
 }
 
-impl<'a> Areas<'a> {
-    // The areas of a store that stands.
+// Does the command; no number below from is free.
+pub fn obey(
+    n: usize,
+    states: &mut [u8],
+    links: &mut [u16],
+    leaders: &mut [u16],
+    holds: &mut [u16],
+    counts: &mut [u32],
+    register: &mut [u16],
+    into: &mut [u16],
+    list: &mut [u16],
+    work: &mut [u32],
+    from: usize,
+    command: Command,
+) -> Obeyed
+    requires { Stands n (store_of n states.old links.old leaders.old holds.old counts.old register.old into.old) list.old work.old from }
+    ensures { Obeys command
+        (store_of n states.old links.old leaders.old holds.old counts.old register.old into.old)
+        list.old work.old (reply_of result.reply)
+        (store_of n states.new links.new leaders.new holds.new counts.new register.new into.new)
+        list.new work.new result.from }
+{
+    match command {
+        Command::New => {
+            let answer = giving::new(n, states, from);
+            Obeyed {
+                reply: Reply::Answered(answer),
+                from: above(answer, from),
+            }
+        }
+        Command::Set { p, k, t } => {
+            let answer = setting::set_link(
+                n, states, links, leaders, holds, counts, into, list, p, k, t,
+            );
+            Obeyed {
+                reply: Reply::Answered(answer),
+                from: lower(answer, list, from),
+            }
+        }
+        Command::Freeze { p, seat } => {
+            let answer = freezing::freeze(
+                n, states, links, leaders, holds, counts, register, into, work, p, seat,
+            );
+            Obeyed {
+                reply: Reply::Answered(answer),
+                from,
+            }
+        }
+        Command::Acquire { p, seat } => {
+            let answer = holding::acquire(n, states, leaders, holds, counts, register, p, seat);
+            Obeyed {
+                reply: Reply::Answered(answer),
+                from,
+            }
+        }
+        Command::Release { p, seat } => {
+            let answer = holding::release(
+                n, states, links, leaders, holds, counts, register, list, p, seat,
+            );
+            Obeyed {
+                reply: Reply::Answered(answer),
+                from: lower(answer, list, from),
+            }
+        }
+        Command::Bin(p) => {
+            let answer = binning::bin(n, states, links, leaders, holds, counts, into, list, p);
+            Obeyed {
+                reply: Reply::Answered(answer),
+                from: lower_bin(answer, list, from, p),
+            }
+        }
+        Command::Look(p) => {
+            let tables = Tables {
+                n,
+                states,
+                links,
+                leaders,
+                holds,
+                counts,
+            };
+            Obeyed {
+                reply: Reply::Saw(looking::look(tables, p)),
+                from,
+            }
+        }
+    }
+}
+
+// The areas of a sound store, room for the list and for the work, and a number below which nothing is free.
+// Each has a lifetime of its own: by it the check tells whose lender an area's contents go back to.
+#[derive(Drop)]
+pub struct Areas<'states, 'links, 'leaders, 'holds, 'counts, 'register, 'into, 'list, 'work> {
+    n: usize,
+    states: &'states mut [u8],
+    links: &'links mut [u16],
+    leaders: &'leaders mut [u16],
+    holds: &'holds mut [u16],
+    counts: &'counts mut [u32],
+    register: &'register mut [u16],
+    into: &'into mut [u16],
+    list: &'list mut [u16],
+    work: &'work mut [u32],
+    pub from: usize,
+    ghost tested: { Tested n (store_of n states.now links.now leaders.now holds.now counts.now register.now into.now) list.now work.now from },
+}
+
+impl<'states, 'links, 'leaders, 'holds, 'counts, 'register, 'into, 'list, 'work> Areas<
+    'states,
+    'links,
+    'leaders,
+    'holds,
+    'counts,
+    'register,
+    'into,
+    'list,
+    'work,
+> {
+    ghost use Rattle.obeying.specs.Held.{held, Same};
+
+    // The areas of a store that stands, where no number below from is free.
     pub fn new(
         n: usize,
-        states: &'a mut [u8],
-        links: &'a mut [u16],
-        leaders: &'a mut [u16],
-        holds: &'a mut [u16],
-        counts: &'a mut [u32],
-        register: &'a mut [u16],
-        into: &'a mut [u16],
-        list: &'a mut [u16],
-        work: &'a mut [u32],
-    ) -> Areas<'a>
-        requires { Stands n (store_of n states.old links.old leaders.old holds.old counts.old register.old into.old) list.old work.old 0 }
-        ensures { result ≡ record {
+        states: &'states mut [u8],
+        links: &'links mut [u16],
+        leaders: &'leaders mut [u16],
+        holds: &'holds mut [u16],
+        counts: &'counts mut [u32],
+        register: &'register mut [u16],
+        into: &'into mut [u16],
+        list: &'list mut [u16],
+        work: &'work mut [u32],
+        from: usize,
+    ) -> Areas<'states, 'links, 'leaders, 'holds, 'counts, 'register, 'into, 'list, 'work>
+        requires { Stands n (store_of n states.old links.old leaders.old holds.old counts.old register.old into.old) list.old work.old from }
+        ensures held { held result ≡ record {
           store = store_of n states.old links.old leaders.old holds.old counts.old register.old into.old;
           list = list.old;
           work = work.old;
-          from = 0;
+          from = from;
         } }
+        ensures same { (result.states.ghost_name ≡ states.entry.ghost_name) × (result.links.ghost_name ≡ links.entry.ghost_name)
+            × (result.leaders.ghost_name ≡ leaders.entry.ghost_name) × (result.holds.ghost_name ≡ holds.entry.ghost_name)
+            × (result.counts.ghost_name ≡ counts.entry.ghost_name) × (result.register.ghost_name ≡ register.entry.ghost_name)
+            × (result.into.ghost_name ≡ into.entry.ghost_name) × (result.list.ghost_name ≡ list.entry.ghost_name)
+            × (result.work.ghost_name ≡ work.entry.ghost_name) }
     {
         Areas {
             n,
@@ -124,14 +220,14 @@ impl<'a> Areas<'a> {
             into,
             list,
             work,
-            from: 0,
+            from,
         }
     }
 
     // The store's tables, to read.
     pub fn tables(&self) -> Tables<'_>
-        ensures told { told result ≡ self.now.store.tables }
-        ensures stands { Stands result.n self.now.store self.now.list self.now.work self.now.from }
+        ensures told { told result ≡ (held self.now).store.tables }
+        ensures stands { let a = held self.now in Stands result.n a.store a.list a.work a.from }
     {
         Tables {
             n: self.n,
@@ -145,122 +241,41 @@ impl<'a> Areas<'a> {
 
     // The list, to read: its first numbers are those that the last command freed.
     pub fn list(&self) -> &[u16]
-        ensures { result.now ≡ self.now.list }
+        ensures { result.now ≡ (held self.now).list }
     {
-        self.list
+        &*self.list
     }
 
     // The store stands.
     pub fn stands(&self)
-        ensures { Stands self.now.store.tables.base.n self.now.store self.now.list self.now.work self.now.from }
+        ensures { let a = held self.now in Stands a.store.tables.base.n a.store a.list a.work a.from }
     {
         let _ = &self.n;
     }
 
     // Does the command.
     pub fn obey(&mut self, command: Command) -> Reply
-        ensures capacity { self.new.store.tables.base.n ≡ self.old.store.tables.base.n }
-        ensures stood { Stands self.old.store.tables.base.n self.old.store self.old.list self.old.work self.old.from }
-        ensures obeys { Obeys command self.old.store self.old.list self.old.work (reply_of result) self.new.store self.new.list self.new.work self.new.from }
+        ensures same { Same self.old self.new }
+        ensures capacity { (held self.new).store.tables.base.n ≡ (held self.old).store.tables.base.n }
+        ensures stood { let a = held self.old in Stands a.store.tables.base.n a.store a.list a.work a.from }
+        ensures obeys { let a = held self.old in let b = held self.new in
+            Obeys command a.store a.list a.work (reply_of result) b.store b.list b.work b.from }
     {
-        // An area that is only read, or read afterwards, is lent from a name of its own.
-        let n = self.n;
-        let from = self.from;
-        match command {
-            Command::New => {
-                let answer = giving::new(n, self.states, from);
-                self.from = above(answer, from);
-                Reply::Answered(answer)
-            }
-            Command::Set { p, k, t } => {
-                let holds = &mut *self.holds;
-                let list = &mut *self.list;
-                let answer = setting::set_link(
-                    n,
-                    self.states,
-                    self.links,
-                    self.leaders,
-                    holds,
-                    self.counts,
-                    self.into,
-                    list,
-                    p,
-                    k,
-                    t,
-                );
-                self.from = lower(answer, list, from);
-                Reply::Answered(answer)
-            }
-            Command::Freeze { p, seat } => {
-                let links = &mut *self.links;
-                let answer = freezing::freeze(
-                    n,
-                    self.states,
-                    links,
-                    self.leaders,
-                    self.holds,
-                    self.counts,
-                    self.register,
-                    self.into,
-                    self.work,
-                    p,
-                    seat,
-                );
-                Reply::Answered(answer)
-            }
-            Command::Acquire { p, seat } => {
-                let states = &mut *self.states;
-                let leaders = &mut *self.leaders;
-                let answer = holding::acquire(
-                    n,
-                    states,
-                    leaders,
-                    self.holds,
-                    self.counts,
-                    self.register,
-                    p,
-                    seat,
-                );
-                Reply::Answered(answer)
-            }
-            Command::Release { p, seat } => {
-                let list = &mut *self.list;
-                let answer = holding::release(
-                    n,
-                    self.states,
-                    self.links,
-                    self.leaders,
-                    self.holds,
-                    self.counts,
-                    self.register,
-                    list,
-                    p,
-                    seat,
-                );
-                self.from = lower(answer, list, from);
-                Reply::Answered(answer)
-            }
-            Command::Bin(p) => {
-                let holds = &mut *self.holds;
-                let list = &mut *self.list;
-                let answer = binning::bin(
-                    n,
-                    self.states,
-                    self.links,
-                    self.leaders,
-                    holds,
-                    self.counts,
-                    self.into,
-                    list,
-                    p,
-                );
-                self.from = lower_bin(answer, list, from, p);
-                Reply::Answered(answer)
-            }
-            Command::Look(p) => {
-                let seen = looking::look(self.tables(), p);
-                Reply::Saw(seen)
-            }
-        }
+        let done = obey(
+            self.n,
+            self.states,
+            self.links,
+            self.leaders,
+            self.holds,
+            self.counts,
+            self.register,
+            self.into,
+            self.list,
+            self.work,
+            self.from,
+            command,
+        );
+        self.from = done.from;
+        done.reply
     }
 }

@@ -7,6 +7,7 @@ ghost use Rattle.rules.specs.Limits.{most};
 ghost use Rattle.rules.specs.History.{freed_in};
 ghost use Rattle.lines.specs.Ending.{Closed};
 ghost use Rattle.obeying.specs.Obeyed.{reply_of};
+ghost use Rattle.obeying.specs.Held.{held, Same};
 ghost use Rattle.answers.specs.Wrote.{longest, Wrote};
 ghost use Rattle.answers.specs.Replies.{reply_line};
 ghost use Rattle.reader.specs.Answered.{Answered};
@@ -34,8 +35,10 @@ fn write_reply(out: &mut [u8], at: usize, reply: Reply, list: &[u16]) -> usize
 // Does a command and writes its answer at a place of out; answers where the output goes on.
 fn act(command: Command, areas: &mut Areas, out: &mut [u8], at: usize) -> usize
     requires { at + longest ≤ length out.old }
-    ensures capacity { areas.new.store.tables.base.n ≡ areas.old.store.tables.base.n }
-    ensures answered { Answered areas.old.store.tables.base.n areas.old.store (Some command) out.old at areas.new.store areas.new.list areas.new.work out.new result areas.new.from }
+    ensures same { Same areas.old areas.new }
+    ensures capacity { (held areas.new).store.tables.base.n ≡ (held areas.old).store.tables.base.n }
+    ensures answered { let a = held areas.old in let b = held areas.new in
+        Answered a.store.tables.base.n a.store (Some command) out.old at b.store b.list b.work out.new result b.from }
 {
     let reply = areas.obey(command);
     write_reply(out, at, reply, areas.list())
@@ -121,8 +124,10 @@ pub fn whole(text: &[u8]) -> usize
 // Answers the lines from a place on of a text whose last byte is 10, while out has room for the longest line.
 pub fn feed(text: &[u8], start: usize, areas: &mut Areas, out: &mut [u8]) -> Fed
     requires { Closed text.now × (start ≤ length text.now) × (longest ≤ length out.old) }
-    ensures { Feeding areas.old.store.tables.base.n areas.old.store text.now start areas.new.store areas.new.list areas.new.work out.new result.taken result.written areas.new.from
-        × Stopped text.now out.new result.taken result.written × (areas.new.store.tables.base.n ≡ areas.old.store.tables.base.n) }
+    ensures fed { let a = held areas.old in let b = held areas.new in
+        Feeding a.store.tables.base.n a.store text.now start b.store b.list b.work out.new result.taken result.written b.from
+        × Stopped text.now out.new result.taken result.written × (b.store.tables.base.n ≡ a.store.tables.base.n) }
+    ensures same { Same areas.old areas.new }
 {
     let most = out.len() - answers::LONGEST;
     let mut at = start;

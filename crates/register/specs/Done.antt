@@ -3,11 +3,12 @@ use Rattle.register.specs.Order.{used_below}
 use Rattle.register.specs.Found.{Found, found_line}
 use Rattle.register.specs.Has.{has_told, has_held, held_has, has_none}
 use Rattle.register.specs.Room.{Room, room_free, room_last}
-use Rattle.register.specs.Steps.{more_has, more_new, less_last, less_some}
+use Rattle.register.specs.Steps.{insert_room, more_has, more_new, less_last, less_some}
 use Rattle.std.specs.Prelude.{◌≡◌, refl, Bool, true, false, not, List, ℕ, ◌+◌, ◌-◌, ◌*◌, ◌<◌, T, eqb, length, get_or, set}
 use Rattle.std.proofs.Math.Path.{sym, ap}
 use Rattle.std.proofs.Common.{◌∙◌, subst, arith, lt-ltb}
 use Rattle.rules.specs.Tests.{◌&◌}
+use Rattle.rules.specs.Limits.{lines}
 use Rattle.rules.specs.Register.{number_at, Ordered, held_by, line_of, has_line, is_full, renumbered, inserted, removed, one_more_by, one_less_by}
 
 T_true : (b : Bool) → T b → b ≡ true
@@ -55,6 +56,9 @@ module _ {l : List ℕ} {s p i : ℕ} (o : Ordered l) (f : Found l s p i) where
 
   pub none-line : held_by l s p ≡ 0 → has_line l i s p ≡ false
   none-line e = not-true (has_line l i s p) (λ t. omega (arith, (has_told l i s p t).0, has_held l o s p i f t))
+
+  pub insert_inside : number_at l 1023 ≡ 0 → i < lines
+  insert_inside e = insert_room l o s p i f e
 
   pub more_free : has_line l i s p ≡ false → Room l s p → number_at l 1023 ≡ 0
   more_free t r = room_free l s p r (has_none l o s p i f t)

@@ -15,7 +15,9 @@ pub mod Ordering
 pub mod Entries
 pub mod Removed
 pub mod Written
-pub mod Shifted
+pub mod Moved
+pub mod Opened
+pub mod Closed
 pub mod Same
 pub mod Room
 pub mod Steps

@@ -12,11 +12,17 @@ ghost use Rattle.register.specs.Found.{Found, Used};
 ghost use Rattle.register.specs.Lines.{IsLines, before, up_to};
 ghost use Rattle.register.specs.Points.{Fronts, PointSaid};
 ghost use Rattle.std.specs.Fn.{ComputesKey};
+ghost use Rattle.register.specs.Moved.{Movable, Lifted, Sunk};
+ghost use Rattle.register.specs.Opened.{Opened};
 ghost use Rattle.register.specs.Room.{Room};
 ghost use Rattle.register.specs.Folds.{all_zeros, all_same};
 ghost use Rattle.register.specs.Judged.{RightSaid};
 
 use rules::Store;
+
+pub const LINES: usize = Store::LINES;
+
+pub const ENTRIES: usize = Store::ENTRIES;
 
 // The register as its lines, of each its seat, piece and number.
 #[tactic(auto, using(crate::specs::Lines::chunks_lines))]
@@ -145,31 +151,78 @@ pub fn has_room(register: &[u16], i: usize, seat: u16, piece: u16) -> bool
     register[Store::ENTRIES - 1] == 0 || number_at(register, i, seat, piece) != 0
 }
 
-// A line with number 1 comes in at line i, where the pair belongs: the used lines from there on move one further.
+// So many entries from `from` on stand three further, the last one first.
+fn lift(register: &mut [u16], from: usize, many: usize)
+    requires { Movable register.old from many }
+    ensures { Lifted register.old from (from + many) register.new }
+{
+    let mut k = many;
+    while 0 < k {
+        k -= 1;
+        register[from + k + 3] = register[from + k];
+    }
+}
+
+// So many entries from `from` on become those three further on.
+fn sink(register: &mut [u16], from: usize, many: usize)
+    requires { Movable register.old from many }
+    ensures { Sunk register.old from (from + many) register.new }
+{
+    let mut k: usize = 0;
+    while k < many {
+        register[from + k] = register[from + k + 3];
+        k += 1;
+    }
+}
+
+// How many blocks of 32 lines from line i on are still to move one further: the last of them may have unused lines, unless it would pass the end.
+fn open_last(register: &mut [u16], i: usize, lines: usize) -> usize
+    requires { Ordered register.old × Used register.old lines × (i ≤ lines) × (lines ≤ 1023) }
+    ensures { Opened register.old i (3 * i + 96 * result) register.new }
+{
+    let blocks = (lines - i + 31) / 32;
+    if i + 32 * blocks < Store::LINES {
+        return blocks;
+    }
+    let from = 3 * i + 96 * (blocks - 1);
+    lift(register, from, 3 * lines - from);
+    blocks - 1
+}
+
+// A line with number 1 comes in at line i, where the pair belongs: the lines from there on move one further, in blocks, which compile to vector instructions.
 fn insert(register: &mut [u16], i: usize, seat: u16, piece: u16)
     requires { Ordered register.old × Found register.old seat piece i × (number_at register.old 1023 ≡ 0) }
     ensures { register.new ≡ inserted register.old i seat piece }
 {
+    let from = 3 * i;
     let lines = used(register);
-    let rest = &mut register[3 * i..3 * lines + 3];
-    let last = rest.len() - 3;
-    rest.copy_within(..last, 3);
-    rest[0] = seat;
-    rest[1] = piece;
-    rest[2] = 1;
+    let mut blocks = open_last(register, i, lines);
+    while 0 < blocks {
+        blocks -= 1;
+        lift(register, from + 96 * blocks, 96);
+    }
+    register[from] = seat;
+    register[from + 1] = piece;
+    register[from + 2] = 1;
 }
 
-// Line i goes: the used lines behind it move up, and the last of them is unused then.
-#[tactic(auto, using(crate::specs::Shifted::shifts))]
+// Line i goes: the lines behind it move up, in blocks of 32, until one is unused.
 fn remove(register: &mut [u16], i: usize)
     requires { Ordered register.old × (0 < number_at register.old i) }
     ensures { register.new ≡ removed register.old i }
 {
-    let lines = used(register);
-    let rest = &mut register[3 * i..3 * lines];
-    rest.copy_within(3.., 0);
-    let last = rest.len() - 3;
-    rest[last..].fill(0);
+    let mut m = i;
+    while m + 32 < Store::LINES {
+        sink(register, 3 * m, 96);
+        m += 32;
+        if register[3 * m + 2] == 0 {
+            return;
+        }
+    }
+    sink(register, 3 * m, 3069 - 3 * m);
+    register[3069] = 0;
+    register[3070] = 0;
+    register[3071] = 0;
 }
 
 // A first hold of the seat on the piece, where line i is found for them: a new line comes in its place.

@@ -20,7 +20,9 @@ fn gives(text: &[u8], output: &[u8], room: &mut [u8]) -> bool
 }
 
 // The bytes of argument i: none where there is no such argument, or where it does not fit.
-fn word<'a>(rt: HostRuntime, i: usize, name: &'a mut [u8]) -> &'a [u8] {
+fn word<'a>(rt: HostRuntime, i: usize, name: &'a mut [u8]) -> &'a [u8]
+    ensures { length result.now ≤ length name.old }
+{
     let size = rt.arg(i, name).unwrap_or(0);
     &name[..size]
 }

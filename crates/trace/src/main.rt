@@ -6,6 +6,7 @@ ghost use Rattle.rules.specs.Limits.{most};
 ghost use Rattle.lines.specs.Ending.{Closed};
 ghost use Rattle.answers.specs.Wrote.{longest};
 ghost use Rattle.carrying.specs.Sofar.{Finished};
+ghost use Rattle.obeying.specs.Held.{held, Same};
 ghost use Rattle.trace.specs.Served.{Served};
 ghost use Rattle.trace.specs.Came.{Came};
 ghost use Rattle.trace.specs.Turned.{Keeps, Turned};
@@ -37,7 +38,8 @@ impl fmt::Display for Failure {
 // Answers the lines of a text whose last byte is 10 and writes the answers, as many at a time as out holds.
 fn serve(output: &mut Stdout, text: &[u8], areas: &mut Areas, out: &mut [u8]) -> Result<(), Failure>
     requires { Closed text.now × (longest ≤ length out.old) }
-    ensures { Served areas.old.store text.now areas.new result }
+    ensures served { Served (held areas.old).store text.now (held areas.new) result }
+    ensures same { Same areas.old areas.new }
 {
     let mut at = 0;
     while at < text.len() {
@@ -89,8 +91,9 @@ fn turn(
     areas: &mut Areas,
     out: &mut [u8],
 ) -> Result<Option<usize>, Failure>
-    requires { Keeps areas.old buf.old kept × (kept < length buf.old) × (longest ≤ length out.old) }
-    ensures { Turned areas.old.store (take kept buf.old) areas.new buf.new result }
+    requires { Keeps (held areas.old) buf.old kept × (kept < length buf.old) × (longest ≤ length out.old) }
+    ensures turned { Turned (held areas.old).store (take kept buf.old) (held areas.new) buf.new result }
+    ensures same { Same areas.old areas.new }
 {
     let chunk = read_more(input, buf, kept)?;
     let whole = reader::whole(&buf[..chunk.end]);
@@ -103,7 +106,7 @@ fn turn(
 
 // Writes the last line of the output, where the whole input is answered.
 fn finish(output: &mut Stdout, areas: &Areas, out: &mut [u8]) -> Result<(), Failure>
-    requires { Finished most areas.now.store × (64 ≤ length out.old) }
+    requires { Finished most (held areas.now).store × (64 ≤ length out.old) }
 {
     let tables = areas.tables();
     let size = reader::close(tables.n, tables.states, tables.leaders, out, 0);
@@ -137,6 +140,7 @@ fn run(rt: HostRuntime) -> Result<(), Failure> {
         &mut into,
         &mut list,
         &mut work,
+        0,
     );
     let mut buf = [0u8; 65536];
     let mut out = [0u8; 65536];

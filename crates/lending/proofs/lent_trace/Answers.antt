@@ -19,12 +19,12 @@ new-areas-requires c = begun most (omega arith) (omega arith)
 pub returns-in_default : goal.returns-in_default
 unfolding empty empty_tables
 returns-in_default c =
-    lent_short c.args.text.now c.args.room.now c.if-text-gt-TRACE.false (ap (λ (a : Standing). a.store) c.new-areas.ensures)
-    (lent_full (omega (arith, c.pour_all.auto)) c.in_default.ensures c.no_room.ensures)
+    lent_short c.args.text.now c.args.room.now c.if-text-gt-TRACE.false (ap (λ (a : Standing). a.store) c.new-areas.ensures.held)
+    (lent_full (omega (arith, c.pour_all.auto)) c.in_default.ensures.filled c.no_room.ensures)
 
 pub returns : goal.returns
 unfolding empty empty_tables
 returns c =
-    lent_short c.args.text.now c.args.room.now c.if-text-gt-TRACE.false (ap (λ (a : Standing). a.store) c.new-areas.ensures)
-    (lent_all (omega (arith, c.pour_all.auto)) c.in-Some.ensures c.tables-tables.ensures.told
+    lent_short c.args.text.now c.args.room.now c.if-text-gt-TRACE.false (ap (λ (a : Standing). a.store) c.new-areas.ensures.held)
+    (lent_all (omega (arith, c.pour_all.auto)) c.in-Some.ensures.filled c.tables-tables.ensures.told
     c.close-k.ensures (omega (arith, c.close-k.ensures.few, c.pour_all.auto, length-replicate {A = ℕ} 8192 0)) c.finish.ensures)
